@@ -1,0 +1,4 @@
+pub mod Difference
+pub mod Fits
+pub mod Rounding
+pub mod Sums

@@ -1,0 +1,121 @@
+-- Laws of the rounding rule. `nearest-*` are of sizes, `round-*` of signed numbers.
+use mathlib.Core.Path.{_≡_, refl, sym, ap, _∙_}
+use mathlib.Core.Bool.{true, false}
+use Prim.Native.Nat.{ℕ, zero, suc, _+_, _*_, _-_, _/_, _%_, _≤_, _<_, _^_}
+use native.Mathlib.Nat.{div-add-mod', div-eq-of-lt-le, div-mul-le-self, lt-div-mul-add, div-lt-iff-lt-mul, div-zero, mul-pos, le-mul-of-pos-right, mul-div-mul-right}
+use native.Mathlib.Decide.{decLt}
+use native.Mathlib.Omega.{arith}
+use lib.IntN.{ℤ, pos, negsuc, negℤ, natAbs, negℤ-negℤ, _-ℤ_, _*ℤ_}
+use lib.Signed.{ltZ}
+use Rattle.rounding.specs.Rounding.{nearest, roundAway, NearestAway}
+use Rattle.rounding.proofs.Difference.{any, nat, negD, -D, *D, sizeD}
+use Rattle.rounding.proofs.Fits.{size-neg, negative, natural}
+
+-- the whole number below, plus one half of the divisor
+near-low : (n d : ℕ) → nearest n d * (2 * d) ≤ 2 * n + d
+unfolding nearest
+near-low n d = div-mul-le-self (2 * n + d) (2 * d)
+
+near-high : (n d : ℕ) → 0 < d → 2 * n + d < nearest n d * (2 * d) + 2 * d
+unfolding nearest
+near-high n d p = lt-div-mul-add (omega arith)
+
+-- by quotient and remainder
+pub nearest-down : (n d : ℕ) → n % d < d - n % d → nearest n d ≡ n / d
+unfolding nearest
+nearest-down n d h =
+    div-eq-of-lt-le (2 * d) (omega (arith, div-add-mod' n d)) (omega (arith, div-add-mod' n d))
+
+pub nearest-up : (n d : ℕ) → 0 < d → n % d < d → d - n % d ≤ n % d → nearest n d ≡ n / d + 1
+unfolding nearest
+nearest-up n d p l h =
+    div-eq-of-lt-le (2 * d) (omega (arith, div-add-mod' n d)) (omega (arith, div-add-mod' n d))
+
+-- at most k, where the fraction is
+pub nearest-le : (n d k : ℕ) → 0 < d → n ≤ k * d → nearest n d ≤ k
+unfolding nearest
+nearest-le n d k p h = let q : 0 < 2 * d = omega arith in let l : (2 * n + d) / (2 * d) < k + 1 = div-lt-iff-lt-mul q .1 (omega arith) in omega arith
+
+pub nearest-le-self : (n d : ℕ) → 0 < d → nearest n d ≤ n
+nearest-le-self n d p = nearest-le n d n p (le-mul-of-pos-right n p)
+
+pub nearest-over-zero : (n : ℕ) → nearest n 0 ≡ 0
+unfolding nearest
+nearest-over-zero n = div-zero (2 * n + 0)
+
+pub nearest-zero : (d : ℕ) → nearest 0 d ≡ 0
+nearest-zero zero = nearest-over-zero 0
+nearest-zero (suc d) = le-zero (nearest-le 0 (suc d) 0 (omega arith) (omega arith))
+  where
+    le-zero : {n : ℕ} → n ≤ 0 → n ≡ 0
+    le-zero h = omega arith
+
+-- a common factor goes
+pub nearest-scale : (n d k : ℕ) → 0 < k → nearest (n * k) (d * k) ≡ nearest n d
+unfolding nearest
+nearest-scale n d k p = go (2 * (n * k) + d * k) (2 * (d * k)) (omega arith) (omega arith)
+  where
+    go : (a b : ℕ) → a ≡ (2 * n + d) * k → b ≡ 2 * d * k → a / b ≡ (2 * n + d) / (2 * d)
+    go a b e f = rw (e, f) (mul-div-mul-right (2 * n + d) (2 * d) p)
+
+-- the rule keeps the sign
+pub round-size : (x : ℤ) (d : ℕ) → natAbs (roundAway x d) ≡ nearest (natAbs x) d
+unfolding roundAway
+round-size (pos n) d = refl
+round-size (negsuc n) d = size-neg (pos (nearest (suc n) d))
+
+pub round-negative : (x : ℤ) (d : ℕ) → ltZ x (pos 0) ≡ true → roundAway x d ≡ negℤ (pos (nearest (natAbs x) d))
+unfolding roundAway
+round-negative x d t = rw (negative x t)
+
+pub round-natural : (x : ℤ) (d : ℕ) → ltZ x (pos 0) ≡ false → roundAway x d ≡ pos (nearest (natAbs x) d)
+unfolding roundAway
+round-natural x d t = rw (natural x t)
+
+pub round-over-zero : (x : ℤ) → roundAway x 0 ≡ pos 0
+unfolding roundAway
+round-over-zero (pos n) = ap pos (nearest-over-zero n)
+round-over-zero (negsuc n) = ap (λ (m : ℕ). negℤ (pos m)) (nearest-over-zero (suc n))
+
+pub round-le : (x : ℤ) (d k : ℕ) → 0 < d → natAbs x ≤ k * d → natAbs (roundAway x d) ≤ k
+round-le x d k p h = rw round-size (nearest-le (natAbs x) d k p h)
+
+-- a fraction with its sign turned gives the same number with its sign turned
+pub round-neg : (x : ℤ) (d : ℕ) → roundAway (negℤ x) d ≡ negℤ (roundAway x d)
+unfolding roundAway
+round-neg (pos zero) d = rw (nearest-zero d)
+round-neg (pos (suc n)) d = refl
+round-neg (negsuc n) d = sym (negℤ-negℤ (pos (nearest (suc n) d)))
+
+pub round-scale : (x : ℤ) (d k : ℕ) → 0 < k → roundAway (x *ℤ pos k) (d * k) ≡ roundAway x d
+unfolding roundAway
+round-scale (pos n) d k p = ap pos (nearest-scale n d k p)
+round-scale (negsuc n) d k p =
+    round-neg (pos (suc n * k)) (d * k) ∙ ap (λ (m : ℕ). negℤ (pos m)) (nearest-scale (suc n) d k p)
+
+-- twice the distance from the exact fraction is at most one
+pub round-error : (x : ℤ) (d : ℕ) → 0 < d → 2 * natAbs (roundAway x d *ℤ pos d -ℤ x) ≤ d
+unfolding roundAway
+round-error (pos n) d p =
+    sizeD 2 (-D (*D (nat (nearest n d)) (nat d)) (nat n)) (omega (arith, near-low n d)) (omega (arith, near-high n d p))
+round-error (negsuc n) d p =
+    sizeD 2 (-D (*D (negD (nat (nearest (suc n) d))) (nat d)) (any (negsuc n))) (omega (arith, near-high (suc n) d p)) (omega (arith, near-low (suc n) d))
+
+-- at just one half, the rounded number is farther from zero than the fraction
+away : (x : ℤ) (d : ℕ) → 0 < d → 2 * natAbs (roundAway x d *ℤ pos d -ℤ x) ≡ d → natAbs x < natAbs (roundAway x d) * d
+unfolding roundAway
+away x d p e = rw round-size (go x (decLt (natAbs x) (nearest (natAbs x) d * d)) e)
+  where
+    closer : (m d : ℕ) → 0 < d → 2 * m ≤ d - 1 → 2 * m ≡ d → ⊥
+    closer m d p l e = omega arith
+    go : (x : ℤ) → Dec (natAbs x < nearest (natAbs x) d * d) → 2 * natAbs (roundAway x d *ℤ pos d -ℤ x) ≡ d → natAbs x < nearest (natAbs x) d * d
+    go x (yes h) e = h
+    go (pos n) (no f) e =
+        let l : nearest n d * d ≤ n = omega arith in
+        absurd (closer _ d p (sizeD 2 {k = d - 1} (-D (*D (nat (nearest n d)) (nat d)) (nat n)) (omega arith) (omega (arith, near-high n d p))) e)
+    go (negsuc n) (no f) e =
+        let l : nearest (suc n) d * d ≤ suc n = omega arith in
+        absurd (closer _ d p (sizeD 2 {k = d - 1} (-D (*D (negD (nat (nearest (suc n) d))) (nat d)) (any (negsuc n))) (omega (arith, near-high (suc n) d p)) (omega arith)) e)
+
+pub round-is-nearest : (x : ℤ) (d : ℕ) → 0 < d → NearestAway x d (roundAway x d)
+round-is-nearest x d p = record { near = round-error x d p; away = away x d p }

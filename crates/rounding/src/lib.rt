@@ -1,0 +1,50 @@
+// One rule: a fraction to the nearest whole number, ties away from zero (01, "Shear").
+ghost use mathlib.Core.Path.{_≡_};
+ghost use Prim.Native.Nat.{_<_, _≤_, _^_};
+ghost use lib.IntN.{pos, negℤ, natAbs};
+ghost use Rattle.rounding.specs.Rounding.{nearest, roundAway};
+
+// The rule on sizes. By quotient and remainder: nothing is doubled, so nothing overflows.
+fn round_size(n: u64, d: u64) -> u64
+    requires { ⌜ 0 < d ⌝ }
+    ensures { λ r. ⌜ r ≡ nearest n d ⌝ }
+{
+    let q = n / d;
+    let r = n % d;
+    if r < d - r { q } else { q + 1 }
+}
+
+// A number's size. The least i64 has no opposite, so one is added before the sign is turned.
+fn size_of(x: i64) -> u64
+    ensures { λ r. ⌜ r ≡ natAbs x ⌝ }
+{
+    if x < 0 {
+        return (-(x + 1)) as u64 + 1;
+    }
+    x as u64
+}
+
+// The negative number of a size.
+fn minus(size: u64) -> i64
+    requires { ⌜ size ≤ 2 ^ 63 ⌝ }
+    ensures { λ r. ⌜ r ≡ negℤ (pos size) ⌝ }
+{
+    if size == 0 {
+        return 0;
+    }
+    -((size - 1) as i64) - 1
+}
+
+// num / den to the nearest whole number, ties away from zero. With den 0 there is no fraction, and the answer is 0.
+pub fn round(num: i64, den: u64) -> i64
+    ensures { λ r. ⌜ r ≡ roundAway num den ⌝ }
+{
+    if den == 0 {
+        return 0;
+    }
+    let size = round_size(size_of(num), den);
+    if num < 0 {
+        return minus(size);
+    }
+    size as i64
+}
