@@ -6,7 +6,7 @@ use Prim.Native.Nat.{ℕ, zero, suc, _+_, _*_, _-_, _≤_, _<_, _^_}
 use native.Mathlib.Nat.{le-refl, le-trans, lt-of-le-of-lt, mul-le-mul, add-le-add}
 use native.Mathlib.Omega.{arith}
 use borrow.Author.Tests.{ltb-true}
-use lib.Dec.{T}
+use lib.Dec.{T, leb→le}
 use lib.IntN.{ℤ, pos, negsuc, negℤ, natAbs, _+ℤ_, _-ℤ_, _*ℤ_}
 use lib.Signed.{mag, nonNeg, leZ, ltZ, _≤ℤ_, _<ℤ_}
 use mir.Syntax.{Width}
@@ -85,3 +85,16 @@ negative (negsuc n) e = refl
 pub natural : (x : ℤ) → ltZ x (pos 0) ≡ false → x ≡ pos (natAbs x)
 natural (pos n) e = refl
 natural (negsuc n) e = absurd (subst T e tt)
+
+-- a number that is at least a natural
+pub nonNeg-of : {k : ℕ} (x : ℤ) → pos k ≤ℤ x → T (nonNeg x)
+nonNeg-of (pos n) h = tt
+nonNeg-of (negsuc n) h = h .le
+
+pub size-ge : {k : ℕ} (x : ℤ) → pos k ≤ℤ x → k ≤ natAbs x
+size-ge {k} (pos n) h = leb→le k n (h .le)
+size-ge (negsuc n) h = absurd (h .le)
+
+pub nonNeg-mul : (n : ℕ) (x : ℤ) → T (nonNeg x) → T (nonNeg (pos n *ℤ x))
+nonNeg-mul n (pos k) h = tt
+nonNeg-mul n (negsuc k) h = absurd h

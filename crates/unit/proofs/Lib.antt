@@ -1,0 +1,2 @@
+pub mod HeldShear
+pub mod Figures

@@ -1,0 +1,32 @@
+-- Choices and comparisons that the rules are written with.
+use mathlib.Core.Bool.{Bool, true, false, _&&_, _||_}
+use mathlib.Core.List.{List, [], _∷_}
+use Prim.Native.Nat.{ℕ}
+use lib.IntN.{ℤ, pos, negℤ}
+use lib.Signed.{leZ, ltZ}
+
+abbrev pub pick {ℓ} : {A : Type ℓ} → Bool → A → A → A
+pick true a b = a
+pick false a b = b
+
+-- the negative number of a size
+abbrev pub neg : ℕ → ℤ
+neg n = negℤ (pos n)
+
+-- from lo to hi, both ends in
+unfoldable pub within : ℤ → ℤ → ℤ → Bool
+within lo x hi = leZ lo x && leZ x hi
+
+unfoldable pub same : ℤ → ℤ → Bool
+same a b = leZ a b && leZ b a
+
+unfoldable pub smaller : ℤ → ℤ → ℤ
+smaller a b = pick (ltZ a b) a b
+
+unfoldable pub larger : ℤ → ℤ → ℤ
+larger a b = pick (ltZ a b) b a
+
+-- whether some element of a list passes a test
+unfoldable pub some {ℓ} : {A : Type ℓ} → (A → Bool) → List A → Bool
+some f [] = false
+some f (a ∷ l) = f a || some f l
