@@ -108,6 +108,7 @@ away x d p e = rw round-size (go x (decLt (natAbs x) (nearest (natAbs x) d * d))
   where
     closer : (m d : ℕ) → 0 < d → 2 * m ≤ d - 1 → 2 * m ≡ d → ⊥
     closer m d p l e = omega arith
+
     go : (x : ℤ) → Dec (natAbs x < nearest (natAbs x) d * d) → 2 * natAbs (roundAway x d *ℤ pos d -ℤ x) ≡ d → natAbs x < nearest (natAbs x) d * d
     go x (yes h) e = h
     go (pos n) (no f) e =

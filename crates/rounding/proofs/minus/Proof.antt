@@ -13,7 +13,6 @@ use Rattle.rounding.proofs.Fits.{Holds, lit, kept, minus, sfits, castS}
 use Rattle.rounding.proofs.minus.Statement.{statement}
 use Rattle.rounding.proofs.minus.Tie as tie
 
-
 -- the size less one, turned; and one less, which is the number
 turned : (s : ℕ) → s ≤ 2 ^ 63 → Holds (pos 0 -ℤ toZ w64 (s - 1)) (pos 0 -ℤ pos (s - 1)) (2 ^ 63 - 1)
 turned s h = let k : s - 1 ≤ 2 ^ 63 - 1 = omega arith in minus (lit 0) (castS w64 k (lit< tt))

@@ -97,9 +97,10 @@ result c =
     let n = local (numerator (k .args .change) (k .args .vertical) (k .args .airspeed) (k .pre .0) (k .pre .1) (k .pre .3)) tt in
     let d = local (divisor (k .args .airspeed) (k .pre .3)) tt in
     let t = nonNeg-of (k .args .airspeed) (k .pre .2) in
-    record
-      { is = (rw (n .is, d .is) at e) ∙ shear-fraction (k .args .change) (k .args .vertical) (k .args .airspeed) t
-      ; le = shear-le (k .args .change) (k .args .vertical) (k .args .airspeed) (k .pre .0) (k .pre .1) (size-ge (k .args .airspeed) (k .pre .2)) }
+    record {
+      is = (rw (n .is, d .is) at e) ∙ shear-fraction (k .args .change) (k .args .vertical) (k .args .airspeed) t;
+      le = shear-le (k .args .change) (k .args .vertical) (k .args .airspeed) (k .pre .0) (k .pre .1) (size-ge (k .args .airspeed) (k .pre .2));
+    }
 
 cast-result : tie.Need-cast-result
 cast-result c = sfits w32 (local (result c) tt) (lit< tt)
