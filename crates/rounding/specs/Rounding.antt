@@ -12,7 +12,7 @@ unfoldable pub roundAway : ℤ → ℕ → ℤ
 roundAway (pos n) d = pos (nearest n d)
 roundAway (negsuc n) d = negℤ (pos (nearest (suc n) d))
 
--- The rule in words, of any r, multiplied out: r is at most one half from x / d and, where it is just one half, farther from zero.
+-- The rule as the paper says it, for a divisor d above 0, multiplied out: r is at most one half from x / d and, where it is just one half, farther from zero.
 -- `round-is-nearest` (proofs/Rounding.antt) shows it of roundAway.
 pub record NearestAway (x : ℤ) (d : ℕ) (r : ℤ) : Type 0 where
   pub near : 2 * natAbs (r *ℤ pos d -ℤ x) ≤ d

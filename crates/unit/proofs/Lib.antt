@@ -1,2 +1,11 @@
+pub mod Tests
+pub mod Choices
+pub mod RangeLaws
+pub mod WindowLaws
 pub mod HeldShear
+pub mod ValidLaws
+pub mod PitchLaws
+pub mod Follow
+pub mod Averages
+pub mod Claims
 pub mod Figures

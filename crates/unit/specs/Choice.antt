@@ -27,6 +27,11 @@ unfoldable pub larger : ℤ → ℤ → ℤ
 larger a b = pick (ltZ a b) b a
 
 -- whether some element of a list passes a test
-unfoldable pub some {ℓ} : {A : Type ℓ} → (A → Bool) → List A → Bool
-some f [] = false
-some f (a ∷ l) = f a || some f l
+unfoldable pub anyOf {ℓ} : {A : Type ℓ} → (A → Bool) → List A → Bool
+anyOf f [] = false
+anyOf f (a ∷ l) = f a || anyOf f l
+
+-- whether every element of a list does
+unfoldable pub every {ℓ} : {A : Type ℓ} → (A → Bool) → List A → Bool
+every f [] = true
+every f (a ∷ l) = f a && every f l

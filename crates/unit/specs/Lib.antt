@@ -1,3 +1,5 @@
 pub mod Choice
 pub mod Rules
+pub mod Steps
+pub mod Claims
 pub mod Figures

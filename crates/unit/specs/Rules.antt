@@ -1,5 +1,6 @@
 -- Paper 01 as rules over the list of accepted samples alone, the newest first: no state, no counter that stops, no array.
--- `before` is the list of the accepted samples before the one at hand. The sections stand in the paper's order.
+-- `before` is the list of the accepted samples before the one at hand. The sections stand in the paper's order; refusals 11 to 20 and the exact
+-- average stand with what they speak of.
 use mathlib.Core.Bool.{Bool, true, false, not, _&&_, _||_}
 use mathlib.Core.List.{List, [], _∷_, _++_}
 use Prim.Native.Nat.{ℕ, _+_, _*_, _/_}
@@ -8,7 +9,7 @@ use lib.IntN.{ℤ, pos, negℤ, natAbs, _+ℤ_, _-ℤ_, _*ℤ_}
 use lib.ListN.{take, replicate}
 use lib.Signed.{leZ, ltZ}
 use Rattle.rounding.specs.Fraction.{Fraction, _over_, _-F_, zeroF, sumF, timesF, divideF, roundF, sumℤ}
-use Rattle.unit.specs.Choice.{pick, neg, within, same, smaller, larger, some}
+use Rattle.unit.specs.Choice.{pick, neg, within, same, smaller, larger, anyOf}
 use Rattle.unit.specs.declared.Sample.{Sample}
 
 -- ════ A sample ════
@@ -78,7 +79,7 @@ windows = row 200 10500 ∷ row 180 11660 ∷ row 160 13110 ∷ row 140 14990 �
 
 -- "the last that many .., this sample's included; before the first sample they are zero"
 unfoldable pub lastOf {ℓ} : {A : Type ℓ} → ℕ → A → List A → List A
-lastOf n zero l = take n (l ++ replicate n zero)
+lastOf n missing l = take n (l ++ replicate n missing)
 
 unfoldable pub windowSum : ℕ → List ℤ → ℤ
 windowSum n l = sumℤ (lastOf n (pos 0) l)
@@ -94,10 +95,15 @@ metUp l w = leZ (pos (w .samples * w .value)) (windowSum (w .samples) l)
 unfoldable pub metDown : List ℤ → Window → Bool
 metDown l w = leZ (pos (w .samples * w .value)) (negℤ (windowSum (w .samples) l))
 
--- "height 50 to 1,000, both ends in, and some window met upward"; amber: "the same, downward"
+-- "height 50 to 1,000, both ends in"
+unfoldable pub inBand : Sample → Bool
+inBand s = within (pos 50) (s .height) (pos 1000)
+
+-- ".. and some window met upward"; amber: "the same, downward". Both may hold at once. Outside the band the windows still fill: `entries`
+-- does not look at the height.
 unfoldable pub condition : (List ℤ → Window → Bool) → List Sample → Bool
 condition met [] = false
-condition met (s ∷ before) = within (pos 50) (s .height) (pos 1000) && some (met (entries held (s ∷ before))) windows
+condition met (s ∷ before) = inBand s && anyOf (met (entries held (s ∷ before))) windows
 
 unfoldable pub redCondition : List Sample → Bool
 redCondition = condition metUp
@@ -107,14 +113,14 @@ amberCondition = condition metDown
 
 -- ════ Lamps and voice ════
 
--- For how many samples in a row, this one included, a lamp has been lit; 0 where it is dark. Its condition and what keeps it dark are given.
--- "lit at a sample if the condition holds, or if it was lit at the sample before and fewer than 60 samples have passed since it came on":
+-- For how many samples in a row, this one included, a lamp has been lit; 0 where it is dark. `holds` is its condition, `dark` what keeps it dark.
+-- "lit at a sample if the .. condition holds, or if it was lit at the sample before and fewer than 60 samples have passed since it came on":
 -- at this sample, as many have passed as it had been lit for at the sample before.
-unfoldable pub litFor : (on dark : List Sample → Bool) → List Sample → ℕ
-litFor on dark [] = 0
-litFor on dark (s ∷ before) =
-    let n = litFor on dark before in
-    pick (dark (s ∷ before)) 0 (pick (on (s ∷ before) || (ltb 0 n && ltb n 60)) (n + 1) 0)
+unfoldable pub litFor : (holds dark : List Sample → Bool) → List Sample → ℕ
+litFor holds dark [] = 0
+litFor holds dark (s ∷ before) =
+    let n = litFor holds dark before in
+    pick (dark (s ∷ before)) 0 (pick (holds (s ∷ before) || (ltb 0 n && ltb n 60)) (n + 1) 0)
 
 unfoldable pub redFor : List Sample → ℕ
 redFor = litFor redCondition (λ l. false)
@@ -149,7 +155,7 @@ voiceFor comes (s ∷ before) =
     let n = pick (modeChange s before) 0 (voiceFor comes before) in
     pick (eqb n 0) (pick (comes (s ∷ before)) 1 0) (n + 1)
 
--- "three cycles of 24 samples, counted 1, 2, 3 from that sample; else 0"
+-- "three cycles of 24 samples .., counted 1, 2, 3 from that sample; else 0"
 unfoldable pub cycle : ℕ → ℕ
 cycle n = pick (leb n 72) ((n + 23) / 24) 0
 
@@ -190,8 +196,7 @@ guided s comes (on n command) =
 unfoldable pub guidanceBy : (comes : List Sample → Bool) → List Sample → Guidance
 guidanceBy comes [] = off
 guidanceBy comes (s ∷ before) =
-    let g = guidanceBy comes before in
-    pick (same (s .deselect) (pos 1)) off (guided s (comes (s ∷ before)) g)
+    pick (same (s .deselect) (pos 1)) off (guided s (comes (s ∷ before)) (guidanceBy comes before))
 
 unfoldable pub guidance : List Sample → Guidance
 guidance = guidanceBy redComesOn

@@ -1,4 +1,4 @@
--- `unit::shear` meets its contract: no step leaves 64 bits, and the one rounding is of the whole fraction.
+-- `unit::shear::held` meets its contract: no step leaves 64 bits, and the one rounding is of the whole fraction.
 use mathlib.Core.Path.{_≡_, sym, ap, _∙_}
 use Prim.Native.Nat.{ℕ, _*_, _≤_, _<_, _^_}
 use native.Mathlib.Nat.{lt-trans}
@@ -12,10 +12,10 @@ use mir.Val.{toZ, ofZ}
 use Rattle.rounding.proofs.Fits.{Holds, exact, lit, kept, times, minus, sfits, castU, nonNeg-of, nonNeg-mul, size-ge}
 use Rattle.unit.specs.Rules.{heldShear}
 use Rattle.unit.proofs.HeldShear.{shear-fraction, shear-le}
-use Rattle.unit.proofs.shear.Statement.{statement}
-use Rattle.unit.proofs.shear.Tie as tie
-use Rattle.unit.proofs.shear.Reads as reads
-use Rattle.unit.proofs.shear.Lts as lts
+use Rattle.unit.proofs.shear.held.Statement.{statement}
+use Rattle.unit.proofs.shear.held.Tie as tie
+use Rattle.unit.proofs.shear.held.Reads as reads
+use Rattle.unit.proofs.shear.held.Lts as lts
 
 -- a value of 64 bits, and a parameter cast to one, as they are read back
 abbrev back : ℤ → ℤ
@@ -108,8 +108,8 @@ cast-result c = sfits w32 (local (result c) tt) (lit< tt)
 returns : tie.Need-returns
 returns c = let r = kept w32 (local (result c) tt) (lit< tt) in (r .is, rw (r .is) (r .le))
 
-pub shear-spec : {M : Type 1} → statement M
-shear-spec =
+pub held-spec : {M : Type 1} → statement M
+held-spec =
     tie.close
     (tie.spec
     cast-a

@@ -1,0 +1,163 @@
+-- The window argument, over the window's length, any value and any table: a held sum is within half its length of the exact one, so an exact
+-- average that reaches the value and 0.000005 more meets the window, and one that lies more than 0.000005 below does not.
+use mathlib.Core.Bool.{Bool, true, false, _||_}
+use mathlib.Core.List.{List, [], _∷_, _++_, map, List·Memᴰ, List·Memᴰ·head, List·Memᴰ·tail}
+use mathlib.Core.Path.{_≡_, refl, sym, ap, _∙_, subst}
+use Prim.Native.Nat.{ℕ, zero, suc, _+_, _*_, _≤_, _<_}
+use native.Mathlib.Nat.{zero-mul, le-of-mul-le-mul-right, lt-of-mul-lt-mul-left, mul-comm}
+use native.Mathlib.Omega.{arith}
+use lib.Dec.{T, lit<}
+use lib.IntN.{ℤ, pos, natAbs, _+ℤ_, _-ℤ_, _*ℤ_}
+use lib.ListN.{length, take, replicate, length-append, length-replicate}
+use lib.Seq.{length-take-le}
+use lib.Signed.{leZ, ltZ, _≤ℤ_, _<ℤ_, clashℤ}
+use Rattle.rounding.specs.Fraction.{Fraction, _over_, _+F_, _≤F_, _<F_, zeroF, sumF, timesF, roundF, AllPositive, Positive, sumℤ}
+use Rattle.rounding.specs.Rounding.{nearest, roundAway}
+use Rattle.rounding.proofs.Difference.{up, down, any, nat, +D, -D, *D, eqD, leD, ltD, ofLe, ofLt, ofSize}
+use Rattle.rounding.proofs.Sums.{sum-error, sum-positive}
+use Rattle.unit.specs.Choice.{anyOf}
+use Rattle.unit.specs.Claims.{tolerance, tableValue, averageOf, Reaches, Below}
+use Rattle.unit.specs.Rules.{held, heldShear, exact, exactShear, entries, Window, lastOf, windowSum, average, metUp}
+use Rattle.unit.specs.declared.Sample.{Sample}
+
+-- ════ Scaled sums ════
+
+-- hundred-thousandths, rounded
+abbrev hold : Fraction → ℤ
+hold f = roundF (timesF 100000 f)
+
+sum-scale : (k : ℕ) (l : List Fraction) → sumF (map (timesF k) l) ≡ timesF k (sumF l)
+sum-scale k [] = ap (λ (n : ℕ). pos n over 1) (sym (zero-mul k))
+sum-scale k (f ∷ l) =
+    rw (sum-scale k l)
+    (ap (λ (x : ℤ). x over (f .den * sumF l .den))
+    (eqD (+D (*D (*D (any (f .num)) (nat k)) (nat (sumF l .den))) (*D (*D (any (sumF l .num)) (nat k)) (nat (f .den))))
+    (*D (+D (*D (any (f .num)) (nat (sumF l .den))) (*D (any (sumF l .num)) (nat (f .den)))) (nat k)) (omega arith)))
+
+positive-scale : (k : ℕ) (l : List Fraction) → AllPositive l → AllPositive (map (timesF k) l)
+positive-scale k [] h = tt
+positive-scale k (f ∷ l) h = (h .0, positive-scale k l (h .1))
+
+map-hold : (l : List Fraction) → map roundF (map (timesF 100000) l) ≡ map hold l
+map-hold [] = refl
+map-hold (f ∷ l) = ap (λ (t : List ℤ). hold f ∷ t) (map-hold l)
+
+length-map : (l : List Fraction) → length (map (timesF 100000) l) ≡ length l
+length-map [] = refl
+length-map (f ∷ l) = ap suc (length-map l)
+
+hold-error : (l : List Fraction) → AllPositive l
+    → 2 * natAbs (sumℤ (map hold l) *ℤ pos (sumF l .den) -ℤ sumF l .num *ℤ pos 100000) ≤ length l * sumF l .den
+hold-error l h = rw (sum-scale 100000 l, map-hold l, length-map l) at (sum-error (map (timesF 100000) l) (positive-scale 100000 l h))
+
+-- ════ From averages to sums ════
+
+-- H is the held sum of n entries, N / D the exact one
+module _ (H N : ℤ) (D n v : ℕ) (p : 0 < D) (near : 2 * natAbs (H *ℤ pos D -ℤ N *ℤ pos 100000) ≤ n * D) where
+  sum-reaches : (pos v over 100000 +F pos 5 over 1000000) ≤F (N over (D * n)) → pos (n * v) ≤ℤ H
+  sum-reaches h =
+      let a = ofLe h (*D (+D (*D (nat v) (nat 1000000)) (*D (nat 5) (nat 100000))) (nat (D * n))) (*D (any N) (nat 100000000000)) in
+      let b = ofSize 2 near (-D (*D (any H) (nat D)) (*D (any N) (nat 100000))) in
+      leD (nat (n * v)) (any H) (le-of-mul-le-mul-right {m = n * v + down H} {n = up H + 0} {k = D} (omega (arith, a, b .1)) p)
+
+  sum-below : (N over (D * n) +F pos 5 over 1000000) <F (pos v over 100000) → H <ℤ pos (n * v)
+  sum-below h =
+      let a = ofLt h (*D (+D (*D (any N) (nat 1000000)) (*D (nat 5) (nat (D * n)))) (nat 100000)) (*D (nat v) (nat (D * n * 1000000))) in
+      let b = ofSize 2 near (-D (*D (any H) (nat D)) (*D (any N) (nat 100000))) in
+      ltD (any H) (nat (n * v)) (lt-of-mul-lt-mul-left D {m = up H + 0} {n = n * v + down H} (omega (arith, a, b .0)))
+
+-- ════ The entries ════
+
+all-take : (n : ℕ) (l : List Fraction) → AllPositive l → AllPositive (take n l)
+all-take zero l h = tt
+all-take (suc n) [] h = tt
+all-take (suc n) (f ∷ l) h = (h .0, all-take n l (h .1))
+
+all-zeros : (l : List Fraction) (n : ℕ) → AllPositive l → AllPositive (l ++ replicate n zeroF)
+all-zeros [] zero h = tt
+all-zeros [] (suc n) h = (lit< tt, all-zeros [] n h)
+all-zeros (f ∷ l) n h = (h .0, all-zeros l n (h .1))
+
+map-take : (n : ℕ) (l : List Fraction) → take n (map hold l) ≡ map hold (take n l)
+map-take zero l = refl
+map-take (suc n) [] = refl
+map-take (suc n) (f ∷ l) = ap (λ (t : List ℤ). hold f ∷ t) (map-take n l)
+
+map-zeros : (l : List Fraction) (n : ℕ) → map hold l ++ replicate n (pos 0) ≡ map hold (l ++ replicate n zeroF)
+unfolding nearest roundAway
+map-zeros [] zero = refl
+map-zeros [] (suc n) = ap (λ (t : List ℤ). pos 0 ∷ t) (map-zeros [] n)
+map-zeros (f ∷ l) n = ap (λ (t : List ℤ). hold f ∷ t) (map-zeros l n)
+
+held-is : (l : List Sample) → entries held l ≡ map hold (entries exact l)
+unfolding entries held heldShear exact
+held-is [] = refl
+held-is (s ∷ l) = ap (λ (t : List ℤ). held s l ∷ t) (held-is l)
+
+-- a window of held shears is that of the exact ones, each held
+window-is : (n : ℕ) (l : List Sample) → windowSum n (entries held l) ≡ sumℤ (map hold (lastOf n zeroF (entries exact l)))
+unfolding windowSum lastOf
+window-is n l =
+    rw (held-is l, map-zeros (entries exact l) n, map-take n (entries exact l ++ replicate n zeroF))
+
+length-last : (n : ℕ) (l : List Fraction) → length (lastOf n zeroF l) ≡ n
+unfolding lastOf
+length-last n l = length-take-le n (l ++ replicate n zeroF) (rw (length-append, length-replicate) (omega arith))
+
+-- ════ Windows and tables ════
+
+is-true : (b : Bool) → T b → b ≡ true
+is-true true t = refl
+is-true false t = absurd t
+
+is-false : {a b : ℤ} → b <ℤ a → leZ a b ≡ false
+is-false {a} {b} h = go (leZ a b) (λ t. clashℤ h (record { le = t }))
+  where
+    go : (t : Bool) → (T t → ⊥) → t ≡ false
+    go true f = absurd (f tt)
+    go false f = refl
+
+last-positive : (n : ℕ) (l : List Fraction) → AllPositive l → AllPositive (lastOf n zeroF l)
+unfolding lastOf
+last-positive n l h = all-take n (l ++ replicate n zeroF) (all-zeros l n h)
+
+-- the exact sum of a window
+abbrev exact-sum : ℕ → List Sample → Fraction
+exact-sum n l = sumF (lastOf n zeroF (entries exact l))
+
+module _ (l : List Sample) (ok : AllPositive (entries exact l)) where
+  near : (n : ℕ) → 2 * natAbs (windowSum n (entries held l) *ℤ pos (exact-sum n l .den) -ℤ exact-sum n l .num *ℤ pos 100000) ≤ n * exact-sum n l .den
+  near n =
+      rw (window-is n l)
+      (rw (length-last n (entries exact l)) at (hold-error (lastOf n zeroF (entries exact l)) (last-positive n (entries exact l) ok)))
+
+  divisor : (n : ℕ) → 0 < exact-sum n l .den
+  divisor n = sum-positive (lastOf n zeroF (entries exact l)) (last-positive n (entries exact l) ok)
+
+  reached-met : (w : Window) → Reaches l w → metUp (entries held l) w ≡ true
+  unfolding Reaches tableValue tolerance averageOf average metUp
+  reached-met w h =
+      let n = w .samples in
+      is-true _ (sum-reaches (windowSum n (entries held l)) (exact-sum n l .num) (exact-sum n l .den) n (w .value) (divisor n) (near n) h .le)
+
+  below-unmet : (w : Window) → Below l w → metUp (entries held l) w ≡ false
+  unfolding Below tableValue tolerance averageOf average metUp
+  below-unmet w h =
+      let n = w .samples in
+      is-false (sum-below (windowSum n (entries held l)) (exact-sum n l .num) (exact-sum n l .den) n (w .value) (divisor n) (near n) h)
+
+  -- some window of a table reaches its value: some window is met; all lie below: none is
+  pub table-met : (table : List Window) (w : Window) → List·Memᴰ w table → Reaches l w → anyOf (metUp (entries held l)) table ≡ true
+  unfolding anyOf
+  table-met (x ∷ table) w (List·Memᴰ·head e) h = rw (ap (metUp (entries held l)) (sym e) ∙ reached-met w h)
+  table-met (x ∷ table) w (List·Memᴰ·tail m) h = rw (table-met table w m h) (or-true (metUp (entries held l) x))
+    where
+      or-true : (b : Bool) → (b || true) ≡ true
+      or-true true = refl
+      or-true false = refl
+
+  pub table-unmet : (table : List Window) → ((w : Window) → List·Memᴰ w table → Below l w) → anyOf (metUp (entries held l)) table ≡ false
+  unfolding anyOf
+  table-unmet [] f = refl
+  table-unmet (x ∷ table) f =
+      rw (below-unmet x (f x (List·Memᴰ·head refl)), table-unmet table (λ w m. f w (List·Memᴰ·tail m)))

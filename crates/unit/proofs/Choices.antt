@@ -1,0 +1,58 @@
+-- Laws of the choices and comparisons that the rules are written with.
+use mathlib.Core.Path.{_≡_, refl, sym, subst}
+use mathlib.Core.Bool.{Bool, true, false, not}
+use Prim.Native.Nat.{ℕ}
+use native.Mathlib.Omega.{arith}
+use borrow.Author.Tests.{lt-ltb, le-ltb, leb-true, leb-false}
+use lib.Dec.{T, ltb, leb}
+use lib.IntN.{ℤ, pos, negsuc}
+use lib.Signed.{ltZ, leZ, _≤ℤ_, _<ℤ_, ≤ℤ-refl, ltZ-no}
+use Rattle.rounding.proofs.Difference.{any, leD, ofLe, ofLt}
+use Rattle.unit.specs.Choice.{pick, smaller, larger}
+
+-- what holds of each of two, where the test picks it, holds of the one that is picked
+pub pick-has {ℓ} : {A : Type ℓ} (P : A → Type 0) (t : Bool) {a b : A} → (t ≡ true → P a) → (t ≡ false → P b) → P (pick t a b)
+pick-has P true f g = f refl
+pick-has P false f g = g refl
+
+-- the one order by the other
+ltb-not : (a b : ℕ) → ltb a b ≡ not (leb b a)
+ltb-not a b = go (leb b a) refl
+  where
+    go : (t : Bool) → leb b a ≡ t → ltb a b ≡ not t
+    go true e = le-ltb a b (leb-true b a e)
+    go false e = lt-ltb a b (leb-false b a e)
+
+pub ltZ-not : (a b : ℤ) → ltZ a b ≡ not (leZ b a)
+ltZ-not (pos a) (pos b) = ltb-not a b
+ltZ-not (pos a) (negsuc b) = refl
+ltZ-not (negsuc a) (pos b) = refl
+ltZ-not (negsuc a) (negsuc b) = ltb-not b a
+
+-- a test's value as an order
+pub below-le : (a b : ℤ) → ltZ a b ≡ true → a ≤ℤ b
+below-le a b e =
+    let h : a <ℤ b = record { lt = subst T (sym e) tt } in
+    leD (any a) (any b) (omega (arith, ofLt h (any a) (any b)))
+
+pub not-below-le : (a b : ℤ) → ltZ a b ≡ false → b ≤ℤ a
+not-below-le a b e = ltZ-no (subst (λ (t : Bool). T (not t)) (sym e) tt)
+
+pub ≤ℤ-trans : {a b c : ℤ} → a ≤ℤ b → b ≤ℤ c → a ≤ℤ c
+≤ℤ-trans {a} {b} {c} h k = leD (any a) (any c) (omega (arith, ofLe h (any a) (any b), ofLe k (any b) (any c)))
+
+pub smaller-le-left : (a b : ℤ) → smaller a b ≤ℤ a
+unfolding smaller
+smaller-le-left a b = pick-has (λ (x : ℤ). x ≤ℤ a) (ltZ a b) (λ e. ≤ℤ-refl a) (not-below-le a b)
+
+pub smaller-le-right : (a b : ℤ) → smaller a b ≤ℤ b
+unfolding smaller
+smaller-le-right a b = pick-has (λ (x : ℤ). x ≤ℤ b) (ltZ a b) (below-le a b) (λ e. ≤ℤ-refl b)
+
+pub smaller-ge : {m a b : ℤ} → m ≤ℤ a → m ≤ℤ b → m ≤ℤ smaller a b
+unfolding smaller
+smaller-ge {m} {a} {b} h k = pick-has (λ (x : ℤ). m ≤ℤ x) (ltZ a b) (λ e. h) (λ e. k)
+
+pub larger-ge-left : (a b : ℤ) → a ≤ℤ larger a b
+unfolding larger
+larger-ge-left a b = pick-has (λ (x : ℤ). a ≤ℤ x) (ltZ a b) (below-le a b) (λ e. ≤ℤ-refl a)

@@ -1,0 +1,57 @@
+-- `unit::State::offer` meets its contract: 8 is tested, then the sample; what passes both is accepted.
+use mathlib.Core.Bool.{Bool, true, false}
+use mathlib.Core.Path.{_≡_, refl, sym, _∙_}
+use Prim.Native.Nat.{ℕ, suc}
+use native.Mathlib.Omega.{arith}
+use borrow.Author.Needs.{needs}
+use borrow.Author.Tests.{eq-eqb, ne-eqb}
+use Rattle.unit.specs.Choice.{pick}
+use Rattle.unit.specs.Rules.{refusal}
+use Rattle.unit.specs.Steps.{passes, refusedOf, refusalOf, offerOf}
+use Rattle.unit.proofs.RangeLaws.{in-range, valid}
+use Rattle.unit.proofs.State.offer.Statement.{statement}
+use Rattle.unit.proofs.State.offer.Tie as tie
+
+passes-requires : tie.Need-passes-requires
+passes-requires c κs = search needs
+
+refusal-requires : tie.Need-refusal-requires
+refusal-requires c κs = search needs
+
+first-of-requires : tie.Need-first-of-requires
+first-of-requires c κs = search needs
+
+number : (c : tie.After-first-of) → c .first-of .result ≡ refusalOf (c .before .before .before .args .self) (c .before .before .before .args .s)
+unfolding refusalOf
+number c = c .first-of .ensures ∙ rw (c .before .refusal .ensures, c .before .before .passes .ensures)
+
+-- no number fits: the state passes 8, and the sample is in range
+both : (ok : Bool) (n : ℕ) → pick ok n 8 ≡ 0 → (ok ≡ true) × (n ≡ 0)
+both true n e = (refl, e)
+both false n e = absurd (never e)
+  where
+    never : _≡_ {A = ℕ} 8 0 → ⊥
+    never e = omega arith
+
+fits : (c : tie.After-first-of) → c .first-of .result ≡ 0
+    → pick (passes (c .before .before .before .args .self)) (refusal (c .before .before .before .args .s)) 8 ≡ 0
+unfolding refusalOf
+fits c e = sym (number c) ∙ e
+
+accept-requires : tie.Need-accept-requires
+accept-requires c κs =
+    let k = c .before .before .before .before in
+    let e = both (passes (k .args .self)) (refusal (k .args .s)) (fits (c .before) (c .if1 .taken)) in
+    (valid (k .args .self) (e .0), in-range (k .args .s) (e .1))
+
+returns : tie.Need-returns
+unfolding offerOf
+returns c = rw (← number (c .before .before), eq-eqb _ _ (c .before .if1 .taken)) (c .accept .ensures)
+
+returns-2 : tie.Need-returns-2
+unfolding offerOf refusedOf
+returns-2 c = rw (← number (c .before), ne-eqb _ _ (c .if1 .left))
+
+pub offer-spec : {M : Type 1} → statement M
+offer-spec =
+    tie.close (tie.spec passes-requires refusal-requires first-of-requires accept-requires returns returns-2)

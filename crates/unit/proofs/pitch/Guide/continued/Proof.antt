@@ -1,0 +1,69 @@
+-- `unit::pitch::Guide::continued` meets its contract: what the calls ensure, each result as it is read back.
+use mathlib.Core.Path.{refl, _∙_}
+use Prim.Native.Nat.{_-_}
+use native.Mathlib.Omega.{arith}
+use borrow.Author.Needs.{needs}
+use borrow.Author.Tests.{eq-eqb, ne-eqb}
+use mir.Syntax.{w32}
+use mir.Val.{SFits}
+use mir.Facts.{toZ-ofZ}
+use Rattle.unit.specs.Steps.{continuedOf}
+use Rattle.unit.proofs.PitchLaws.{counted-le, guide-is}
+use Rattle.unit.proofs.pitch.Guide.continued.Statement.{statement}
+use Rattle.unit.proofs.pitch.Guide.continued.Tie as tie
+
+sub-counted : tie.Need-sub-counted
+sub-counted c = c .before .pre .2
+
+counted-requires : tie.Need-counted-requires
+counted-requires c κs = search needs
+
+off-requires : tie.Need-off-requires
+off-requires c κs = search needs
+
+returns : tie.Need-returns
+unfolding continuedOf
+returns c = rw (← c .before .before .counted .ensures, eq-eqb _ _ (c .before .if1 .taken)) (c .off .ensures)
+
+cap-requires : tie.Need-cap-requires
+cap-requires c κs = search needs
+
+add-t5 : tie.Need-add-t5
+add-t5 c =
+    let k = c .before .before .before .before in
+    omega (arith, c .before .before .counted .ensures, counted-le (k .args .s) (k .args .self .count - 1))
+
+towards-requires : tie.Need-towards-requires
+towards-requires c κs =
+    let k = c .before .before .before .before .before in
+    let command : SFits w32 (k .args .self .command) = search needs in
+    rw (toZ-ofZ command) (k .pre .0 .command-le)
+
+smaller-requires : tie.Need-smaller-requires
+smaller-requires c κs = search needs
+
+returns-2 : tie.Need-returns-2
+unfolding continuedOf
+returns-2 c =
+    let k = c .before .before .before .before in
+    let command : SFits w32 (k .before .before .before .args .self .command) = search needs in
+    let moved : SFits w32 (c .before .towards .result) = record { sfits = c .before .towards .ok } in
+    let top : SFits w32 (c .before .before .before .cap .result) = record { sfits = c .before .before .before .cap .ok } in
+    let d = simp toZ-ofZ at (c .before .towards .ensures) in
+    let e = simp toZ-ofZ at (c .smaller .ensures) in
+    rw (← k .before .counted .ensures, ne-eqb _ _ (k .if1 .left))
+    (guide-is refl (toZ-ofZ (record { sfits = c .smaller .ok }) ∙ e ∙ rw (d, c .before .before .before .cap .ensures)))
+
+pub continued-spec : {M : Type 1} → statement M
+continued-spec =
+    tie.close
+    (tie.spec
+    sub-counted
+    counted-requires
+    off-requires
+    returns
+    cap-requires
+    add-t5
+    towards-requires
+    smaller-requires
+    returns-2)

@@ -1,0 +1,46 @@
+-- `unit::ranges::last_fits` meets its contract: each step's result is put for its name, and the fields are read back as they are.
+use borrow.Author.Needs.{needs}
+use mir.Syntax.{w32}
+use mir.Val.{SFits}
+use mir.Facts.{toZ-ofZ}
+use Rattle.unit.specs.Steps.{lastFits}
+use Rattle.unit.proofs.ranges.last_fits.Statement.{statement}
+use Rattle.unit.proofs.ranges.last_fits.Tie as tie
+
+between-requires : tie.Need-between-requires
+between-requires c κs = search needs
+
+between-requires-2 : tie.Need-between-requires-2
+between-requires-2 c κs = search needs
+
+between-requires-3 : tie.Need-between-requires-3
+between-requires-3 c κs = search needs
+
+both-requires : tie.Need-both-requires
+both-requires c κs = search needs
+
+both-requires-2 : tie.Need-both-requires-2
+both-requires-2 c κs = search needs
+
+returns : tie.Need-returns
+unfolding lastFits
+returns c =
+    let c3 = c .before .before in
+    let c2 = c3 .before .before in
+    let c1 = c2 .before .before in
+    let k = c1 .before .before .args .core in
+    let command : SFits w32 (k .command) = search needs in
+    let along : SFits w32 (k .along) = search needs in
+    let mode : SFits w32 (k .mode) = search needs in
+    rw (c .both2 .ensures, c .before .both .ensures, c1 .between .ensures, c2 .between2 .ensures, c3 .between3 .ensures) (simp toZ-ofZ)
+
+pub last-fits-spec : {M : Type 1} → statement M
+last-fits-spec =
+    tie.close
+    (tie.spec
+    between-requires
+    between-requires-2
+    between-requires-3
+    both-requires
+    both-requires-2
+    returns)

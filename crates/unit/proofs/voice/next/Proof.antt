@@ -1,0 +1,28 @@
+-- `unit::voice::next` meets its contract, branch by branch.
+use borrow.Author.Needs.{needs}
+use Rattle.unit.proofs.Tests.{tests}
+use Rattle.unit.specs.Steps.{voiceNext}
+use Rattle.unit.proofs.voice.next.Statement.{statement}
+use Rattle.unit.proofs.voice.next.Tie as tie
+
+returns : tie.Need-returns
+unfolding voiceNext
+returns c = search (tests, c .if2 .taken)
+
+returns-2 : tie.Need-returns-2
+unfolding voiceNext
+returns-2 c = search (tests, c .if2 .left)
+
+add-result : tie.Need-add-result
+add-result c = search needs
+
+returns-3 : tie.Need-returns-3
+unfolding voiceNext
+returns-3 c = search tests
+
+returns-4 : tie.Need-returns-4
+unfolding voiceNext
+returns-4 c = search tests
+
+pub next-spec : {M : Type 1} → statement M
+next-spec = tie.close (tie.spec returns returns-2 add-result returns-3 returns-4)

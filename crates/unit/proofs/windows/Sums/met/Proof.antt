@@ -1,0 +1,79 @@
+-- `unit::windows::Sums::met` meets its contract: the six calls are its six tests, from the last.
+use mathlib.Core.Path.{_≡_}
+use mathlib.Core.Bool.{Bool, false, _||_}
+use Prim.Native.Nat.{ℕ}
+use borrow.Author.Needs.{needs}
+use lib.IntN.{ℤ, pos, negℤ}
+use lib.Signed.{leZ}
+use mir.Syntax.{w64}
+use mir.Val.{SFits, toZ, ofZ}
+use mir.Facts.{toZ-ofZ}
+use Rattle.unit.specs.Choice.{pick}
+use Rattle.unit.specs.Steps.{metOf}
+use Rattle.unit.specs.declared.windows.Sums.{Sums}
+use Rattle.unit.proofs.windows.Sums.met.Statement.{statement}
+use Rattle.unit.proofs.windows.Sums.met.Tie as tie
+
+-- a test of a sum as it is read back
+abbrev test : ℕ → Bool → ℤ → Bool
+test n up x = let back = toZ w64 (ofZ w64 x) in leZ (pos n) (pick up back (negℤ back))
+
+-- a sum of 64 bits is read back as it is
+abbrev Fit : Sums → Type 0
+Fit s = SFits w64 (s .s100) × SFits w64 (s .s120) × SFits w64 (s .s140) × SFits w64 (s .s160) × SFits w64 (s .s180) × SFits w64 (s .s200)
+
+fit : (k : tie.After-struct-told) → Fit (k .before .args .self)
+fit k = (search needs, search needs, search needs, search needs, search needs, search needs)
+
+-- each test's answer is the other of the next
+chain : (up : Bool) (s : Sums) {a b c d e f : Bool} → Fit s
+    → a ≡ (test 2100000 up (s .s100) || false)
+    → b ≡ (test 2097600 up (s .s120) || a)
+    → c ≡ (test 2098600 up (s .s140) || b)
+    → d ≡ (test 2097600 up (s .s160) || c)
+    → e ≡ (test 2098800 up (s .s180) || d)
+    → f ≡ (test 2100000 up (s .s200) || e)
+    → f ≡ metOf up s
+unfolding metOf
+chain up s h p q r t u v = cc (toZ-ofZ (h .0), toZ-ofZ (h .1), toZ-ofZ (h .2), toZ-ofZ (h .3), toZ-ofZ (h .4), toZ-ofZ (h .5))
+
+reaches-requires : tie.Need-reaches-requires
+reaches-requires c κs = search needs
+
+reaches-requires-2 : tie.Need-reaches-requires-2
+reaches-requires-2 c κs = search needs
+
+reaches-requires-3 : tie.Need-reaches-requires-3
+reaches-requires-3 c κs = search needs
+
+reaches-requires-4 : tie.Need-reaches-requires-4
+reaches-requires-4 c κs = search needs
+
+reaches-requires-5 : tie.Need-reaches-requires-5
+reaches-requires-5 c κs = search needs
+
+reaches-requires-6 : tie.Need-reaches-requires-6
+reaches-requires-6 c κs = search needs
+
+returns : tie.Need-returns
+returns c =
+    let c5 = c .before .before in
+    let c4 = c5 .before .before in
+    let c3 = c4 .before .before in
+    let c2 = c3 .before .before in
+    let c1 = c2 .before .before in
+    let k = c1 .before .before .args in
+    chain (k .up) (k .self) (fit (c1 .before))
+    (c1 .reaches .ensures) (c2 .reaches2 .ensures) (c3 .reaches3 .ensures) (c4 .reaches4 .ensures) (c5 .reaches5 .ensures) (c .reaches6 .ensures)
+
+pub met-spec : {M : Type 1} → statement M
+met-spec =
+    tie.close
+    (tie.spec
+    reaches-requires
+    reaches-requires-2
+    reaches-requires-3
+    reaches-requires-4
+    reaches-requires-5
+    reaches-requires-6
+    returns)

@@ -1,0 +1,97 @@
+-- The claims over every list of samples offered in the plain form, each a definition that is proved in proofs/Claims.antt.
+-- A list has the newest sample first. 01: "The list in demand 3" and the last lines of "Refusal numbers".
+use mathlib.Core.Bool.{Bool, true, false}
+use mathlib.Core.List.{List, [], _∷_, _++_, List·Memᴰ}
+use mathlib.Core.Logic.{_⊎_}
+use mathlib.Core.Path.{_≡_}
+use Prim.Native.Nat.{ℕ}
+use lib.Dec.{eqb}
+use lib.IntN.{ℤ, pos}
+use lib.Signed.{_≤ℤ_}
+use Rattle.rounding.specs.Fraction.{Fraction, _over_, _+F_, _≤F_, _<F_}
+use Rattle.unit.specs.Choice.{pick}
+use Rattle.unit.specs.Rules.{refusal, held, exact, entries, Window, windows, inBand, average, redLit, amberLit, voice, guidance, isOn, commandOf}
+use Rattle.unit.specs.Steps.{freshState, passes, refusedOf, offerOf}
+use Rattle.unit.specs.declared.Answer.{Answer}
+use Rattle.unit.specs.declared.Offered.{Offered}
+use Rattle.unit.specs.declared.Sample.{Sample}
+use Rattle.unit.specs.declared.State.{State}
+
+-- "The first gets the fresh state .. Each later one gets the state that the one before it returned": the state after a list
+unfoldable pub stateAfter : List Sample → State
+stateAfter [] = freshState
+stateAfter (s ∷ before) = offerOf (stateAfter before) s .state
+
+-- the answer to a sample that is offered after a list
+unfoldable pub answerTo : Sample → List Sample → Answer
+answerTo s before = offerOf (stateAfter before) s .answer
+
+-- "Accepted are exactly the samples that no refusal number fits; 8 never comes here."
+unfoldable pub accepted : List Sample → List Sample
+accepted [] = []
+accepted (s ∷ before) = pick (eqb (refusal s) 0) (s ∷ accepted before) (accepted before)
+
+-- ════ Claims on states and answers ════
+
+-- refusal 8 fits no state that such a list leaves, the fresh one included
+unfoldable pub StatesPass : Type 0
+StatesPass = (l : List Sample) → passes (stateAfter l) ≡ true
+
+-- what the rules show at an accepted sample, as an answer
+unfoldable pub shows : Sample → List Sample → Answer
+shows s before =
+    let now = s ∷ before in
+    record {
+      refusal = 0;
+      alert = pick (redLit now) 2 (pick (amberLit now) 1 0);
+      voice = voice now;
+      guidance = pick (isOn (guidance now)) 1 0;
+      command = commandOf (guidance now);
+      shear = held s before;
+    }
+
+-- at each sample: the answer by the rules over the accepted samples alone; or the first number that fits it
+unfoldable pub AnswersByRules : Type 0
+AnswersByRules = (s : Sample) (before : List Sample) → answerTo s before ≡ pick (eqb (refusal s) 0) (shows s (accepted before)) (refusedOf (refusal s))
+
+-- "A refused sample is as if never offered": whatever is offered before and after it, the next answer and state are those without it
+unfoldable pub RefusedIsNothing : Type 0
+RefusedIsNothing =
+    (before later : List Sample) (bad next : Sample) → ¬ (refusal bad ≡ 0)
+    → offerOf (stateAfter (later ++ bad ∷ before)) next ≡ offerOf (stateAfter (later ++ before)) next
+
+-- ════ Demand 3, for lone samples in the plain form ════
+
+-- 0.000005
+unfoldable pub tolerance : Fraction
+tolerance = pos 5 over 1000000
+
+-- "Table values are those held, over 100,000."
+unfoldable pub tableValue : Window → Fraction
+tableValue w = pos (w .value) over 100000
+
+unfoldable pub averageOf : Window → List Sample → Fraction
+averageOf w l = average (w .samples) (entries exact l)
+
+-- "an exact average reaches its table value plus 0.000005"; "lies below by more than 0.000005"
+unfoldable pub Reaches : List Sample → Window → Type 0
+Reaches l w = (tableValue w +F tolerance) ≤F averageOf w l
+
+unfoldable pub Below : List Sample → Window → Type 0
+Below l w = (averageOf w l +F tolerance) <F tableValue w
+
+-- the alert that the last accepted sample's answer showed; 0 where there was none
+unfoldable pub lastAlert : List Sample → ℕ
+lastAlert [] = 0
+lastAlert (s ∷ before) = pick (eqb (refusal s) 0) (answerTo s before .alert) (lastAlert before)
+
+-- one accepted sample s, offered after the list `before`: red is alert 2, and the command is shown where guidance is 1
+pub record Demand3At (s : Sample) (before : List Sample) : Type 0 where
+  pub lit : (w : Window) → List·Memᴰ w windows → inBand s ≡ true → Reaches (s ∷ accepted before) w → answerTo s before .alert ≡ 2
+  pub dark :
+      ((lastAlert before ≡ 2) → ⊥) → ((inBand s ≡ false) ⊎ ((w : Window) → List·Memᴰ w windows → Below (s ∷ accepted before) w))
+      → (answerTo s before .alert ≡ 2) → ⊥
+  pub capped : answerTo s before .guidance ≡ 1 → (answerTo s before .command ≤ℤ pos 27000) × (answerTo s before .command ≤ℤ s .stall)
+
+unfoldable pub Demand3 : Type 0
+Demand3 = (before : List Sample) (s : Sample) → refusal s ≡ 0 → Demand3At s before

@@ -1,0 +1,40 @@
+// The lamps' counters (01, "Lamps and voice").
+ghost use mathlib.Core.Path.{_≡_};
+ghost use mathlib.Core.Bool.{_&&_};
+ghost use Rattle.unit.specs.Steps.{lampNext, unlessLit, alertOf};
+
+pub(crate) fn both(a: bool, b: bool) -> bool
+    ensures { λ r. ⌜ r ≡ (a && b) ⌝ }
+{
+    if a { b } else { false }
+}
+
+// A lamp's counter after a sample at which its condition holds or not. It stops at 60, from where only the condition keeps it lit.
+pub(crate) fn next(count: u16, on: bool) -> u16
+    ensures { λ r. ⌜ r ≡ lampNext count on ⌝ }
+{
+    if count == 0 {
+        return if on { 1 } else { 0 };
+    }
+    if count < 60 {
+        return count + 1;
+    }
+    if on { 60 } else { 0 }
+}
+
+// "Amber is dark whenever red is lit."
+pub(crate) fn unless(red: u16, amber: u16) -> u16
+    ensures { λ r. ⌜ r ≡ unlessLit red amber ⌝ }
+{
+    if 0 < red { 0 } else { amber }
+}
+
+// 2 red, 1 amber, 0 none.
+pub(crate) fn alert(red: u16, amber: u16) -> u16
+    ensures { λ r. ⌜ r ≡ alertOf red amber ⌝ }
+{
+    if 0 < red {
+        return 2;
+    }
+    if 0 < amber { 1 } else { 0 }
+}

@@ -1,0 +1,127 @@
+// Escape guidance (01, "Escape pitch").
+ghost use mathlib.Core.Path.{_≡_};
+ghost use mathlib.Core.Bool.{_&&_};
+ghost use Prim.Native.Nat.{_≤_, _<_};
+ghost use lib.IntN.{pos, natAbs};
+ghost use Rattle.unit.specs.Choice.{smaller, larger, same};
+ghost use Rattle.unit.specs.Rules.{cap, towards, climbing, counted};
+ghost use Rattle.unit.specs.Steps.{InRange, GuideValid, noGuide, startedOf, continuedOf, guideNext, shownOf};
+use crate::Sample;
+
+// Guidance: count is 0 while it is off, else one more than the samples in a row that have counted towards its end.
+pub(crate) struct Guide {
+    pub count: u16,
+    pub command: i32,
+}
+
+fn smaller(a: i32, b: i32) -> i32
+    ensures { λ r. ⌜ r ≡ smaller a b ⌝ }
+{
+    if a < b { a } else { b }
+}
+
+fn larger(a: i32, b: i32) -> i32
+    ensures { λ r. ⌜ r ≡ larger a b ⌝ }
+{
+    if a < b { b } else { a }
+}
+
+fn equal(a: i32, b: i32) -> bool
+    ensures { λ r. ⌜ r ≡ same a b ⌝ }
+{
+    a <= b && b <= a
+}
+
+fn cap(s: Sample) -> i32
+    ensures { λ r. ⌜ r ≡ cap s ⌝ }
+{
+    smaller(27000, s.stall)
+}
+
+fn towards(c: i32) -> i32
+    requires { ⌜ natAbs c ≤ 30000 ⌝ }
+    ensures { λ r. ⌜ r ≡ towards c ⌝ }
+{
+    if c < 15000 {
+        return smaller(15000, c + 75);
+    }
+    larger(15000, c - 75)
+}
+
+fn climbing(s: Sample) -> bool
+    requires { ⌜ InRange s ⌝ }
+    ensures { λ r. ⌜ r ≡ climbing s ⌝ }
+{
+    let need = s.vs1 * 13;
+    let have = s.airspeed * 10;
+    0 < s.climb && need < have
+}
+
+fn counted(s: Sample, n: u16) -> u16
+    requires { ⌜ InRange s × (n ≤ 600) ⌝ }
+    ensures { λ r. ⌜ r ≡ counted s n ⌝ }
+{
+    if climbing(s) { n + 1 } else { 0 }
+}
+
+fn off() -> Guide
+    ensures { λ r. ⌜ r ≡ noGuide ⌝ }
+{
+    Guide {
+        count: 0,
+        command: 0,
+    }
+}
+
+fn started(s: Sample) -> Guide
+    requires { ⌜ InRange s ⌝ }
+    ensures { λ r. ⌜ r ≡ startedOf s ⌝ }
+{
+    let n = counted(s, 0);
+    let top = cap(s);
+    Guide {
+        count: n + 1,
+        command: smaller(s.pitch, top),
+    }
+}
+
+impl Guide {
+    fn continued(self, s: Sample) -> Guide
+        requires { ⌜ GuideValid self × InRange s × (0 < self .count) ⌝ }
+        ensures { λ r. ⌜ r ≡ continuedOf self s ⌝ }
+    {
+        let n = counted(s, self.count - 1);
+        if n == 600 {
+            return off();
+        }
+        let top = cap(s);
+        Guide {
+            count: n + 1,
+            command: smaller(towards(self.command), top),
+        }
+    }
+
+    // "Guidance ends at a sample with deselect, which beats a start"; "an end beats a coming-on".
+    pub(crate) fn next(self, s: Sample, comes: bool) -> Guide
+        requires { ⌜ GuideValid self × InRange s ⌝ }
+        ensures { λ r. ⌜ r ≡ guideNext self s comes ⌝ }
+    {
+        if equal(s.deselect, 1) {
+            return off();
+        }
+        if self.count == 0 {
+            if comes {
+                return started(s);
+            }
+            return off();
+        }
+        self.continued(s)
+    }
+}
+
+// 1 where the command is shown.
+pub(crate) fn shown(count: u16) -> u16
+    ensures { λ r. ⌜ r ≡ shownOf count ⌝ }
+{
+    if count == 0 { 0 } else { 1 }
+}

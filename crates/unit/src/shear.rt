@@ -1,0 +1,17 @@
+// Shear (01, "Shear").
+ghost use mathlib.Core.Path.{_≡_};
+ghost use Prim.Native.Nat.{_≤_};
+ghost use lib.IntN.{pos, natAbs};
+ghost use lib.Signed.{_≤ℤ_};
+ghost use Rattle.unit.specs.Rules.{heldShear};
+
+// The held shear of an accepted sample, from its change of along wind, its vertical wind and its airspeed.
+pub(crate) fn held(change: i32, vertical: i32, airspeed: i32) -> i32
+    requires { ⌜ (natAbs change ≤ 40000) × (natAbs vertical ≤ 10000) × (pos 6000 ≤ℤ airspeed) × (natAbs airspeed ≤ 60000) ⌝ }
+    ensures { λ r. ⌜ (r ≡ heldShear change vertical airspeed) × (natAbs r ≤ 50000000) ⌝ }
+{
+    let a = airspeed as i64;
+    let num = ((change as i64) * 18520 * a - (vertical as i64) * 1765197) * 100000;
+    let den = (1765197 * a) as u64;
+    rounding::round(num, den) as i32
+}
