@@ -27,7 +27,7 @@ impl Rng {
         self.draw().is_multiple_of(n)
     }
 
-    pub fn pick(&mut self, from: &[i32]) -> i32 {
+    pub fn pick<T: Copy>(&mut self, from: &[T]) -> T {
         from[self.draw() as usize % from.len()]
     }
 }
@@ -117,6 +117,36 @@ pub fn plateau(before: i32, dip: i32, n: i32, (vertical, airspeed): (i32, i32)) 
     })
 }
 
+/// Both directions, each with its alert.
+pub const WAYS: [(i32, u8); 2] = [(1, 2), (-1, 1)];
+
+/// The test rows of 000: average in hundred-thousandths, samples exposed, and the samples within
+/// which the caution or the warning comes, if any.
+pub const TEST_ROWS: [(i32, i32, Option<[usize; 2]>); 9] = [
+    (2_000, 400, None),
+    (4_000, 400, None),
+    (10_500, 200, Some([200, 200])),
+    (11_660, 180, Some([180, 180])),
+    (13_110, 160, Some([160, 160])),
+    (14_990, 140, Some([140, 140])),
+    (17_480, 120, Some([124, 132])),
+    (21_000, 100, Some([114, 124])),
+    (27_000, 100, Some([100, 114])),
+];
+
+/// The row's alert comes first within its limit and no other comes, `before` samples being calm;
+/// or none comes at all.
+pub fn meets_row(alerts: &[u8], before: usize, alert: u8, limits: Option<[usize; 2]>) -> bool {
+    let first = alerts.iter().position(|&a| a != 0);
+    match limits {
+        None => first.is_none(),
+        Some(limits) => {
+            let limit = before + limits[usize::from(alert) - 1];
+            first.is_some_and(|at| at < limit) && alerts.iter().all(|a| [0, alert].contains(a))
+        }
+    }
+}
+
 /// Values where something changes, field by field.
 const TURNS: [&[i32]; 10] = [
     &[0, 1_999, 2_000, -1_999, -2_000],
@@ -140,7 +170,7 @@ fn edge(rng: &mut Rng, field: usize) -> i32 {
     }
 }
 
-fn random_sample(rng: &mut Rng) -> Sample {
+pub fn random_sample(rng: &mut Rng) -> Sample {
     Sample::from_fields(RANGES.map(|(low, high)| rng.within(low, high)))
 }
 
@@ -180,7 +210,7 @@ fn calm(rng: &mut Rng, out: &mut Lists) {
 }
 
 /// Winds that wander and jump; modes, heights and climbs that last a while.
-fn gusts(rng: &mut Rng, n: i32) -> Vec<Sample> {
+pub fn gusts(rng: &mut Rng, n: i32) -> Vec<Sample> {
     let mut now = CALM;
     let mut lift = 0;
     let cancels = rng.one_in(3);

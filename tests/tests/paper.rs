@@ -1,6 +1,6 @@
 //! Every worked figure of the scope paper, held against the reference; quoted names are its sections.
 
-use windshear_tests::gen::{condition_at, met, plateau, plateaus, series, stepped, CALM};
+use windshear_tests::gen::*;
 use windshear_tests::reference::*;
 
 fn play(list: &[Sample]) -> Vec<Answer> {
@@ -19,9 +19,6 @@ fn lit(list: &[Sample], alert: u8) -> Vec<usize> {
 fn span(from: usize, to: usize) -> Vec<usize> {
     (from..=to).collect()
 }
-
-/// Both directions, each with its alert.
-const WAYS: [(i32, u8); 2] = [(1, 2), (-1, 1)];
 
 /// "A sample", "Refusal numbers": both ends in, the first number that fits.
 #[test]
@@ -164,29 +161,14 @@ fn one_step() {
     assert_eq!((160 * 13_110, 120 * 17_480), (2_097_600, 2_097_600));
 }
 
-/// "The six windows": the test rows of 000, exposure and limits in tenths of a second.
+/// "The six windows": the test rows of 000.
 #[test]
 fn test_rows() {
-    let rows = [
-        (1_050, 100, 100, 100),
-        (1_166, 90, 90, 90),
-        (1_311, 80, 80, 80),
-        (1_499, 70, 70, 70),
-        (1_748, 60, 62, 66),
-        (2_100, 50, 57, 62),
-        (2_700, 50, 50, 57),
-    ];
     for (sign, alert) in WAYS {
-        let exposed = |vertical, tenths| plateau(20, 0, 2 * tenths, (-sign * vertical, 10_000));
-        for quiet in [200, 400] {
-            assert!(play(&exposed(quiet, 200)).iter().all(|a| a.alert == 0));
-        }
-        for (average, exposure, caution, warning) in rows {
-            let answers = play(&exposed(average, exposure));
-            let first = answers.iter().position(|a| a.alert != 0).unwrap();
-            assert_eq!(answers[first].alert, alert);
-            let limit = 2 * if alert == 1 { caution } else { warning };
-            assert!(first - 20 < limit, "{average} {sign}: {first}");
+        for (average, exposed, limits) in TEST_ROWS {
+            let list = plateau(20, 0, exposed, (-sign * average / 10, 10_000));
+            let alerts: Vec<u8> = play(&list).iter().map(|a| a.alert).collect();
+            assert!(meets_row(&alerts, 20, alert, limits), "{average} {sign}");
         }
         // A constant shear at a table value alerts exactly when its window is full of it.
         for (samples, value) in WINDOWS {
@@ -788,29 +770,11 @@ fn record_refusals() {
         );
         let mut bytes = file(&[good; 4]);
         // The record's own bytes at place 2, and a worse one after it.
-        let raw = raw_bytes(&record);
-        bytes[8 + 48..][..24].copy_from_slice(&raw);
+        bytes[8 + 48..][..24].copy_from_slice(&record.bytes());
         bytes[8 + 72..].copy_from_slice(&deselect_bad);
         assert_eq!(run(&bytes, 40), Err((number, 2)));
         assert_eq!(listing(&bytes), format!("refused {number} at 2\n"));
     }
-}
-
-/// A record's bytes without the test of its contents.
-fn raw_bytes(r: &Record) -> Vec<u8> {
-    let words = [r.along, r.vertical, r.airspeed]
-        .map(u32::to_le_bytes)
-        .concat();
-    let signed = [r.height, r.pitch, r.stall, r.climb]
-        .map(i16::to_le_bytes)
-        .concat();
-    [
-        words,
-        signed,
-        r.vs1.to_le_bytes().to_vec(),
-        vec![r.mode, r.deselect],
-    ]
-    .concat()
 }
 
 /// "Refusal numbers": writing a header tests 5, then 7.

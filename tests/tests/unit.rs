@@ -5,8 +5,7 @@ use windshear_tests::gen::all_lists;
 use windshear_tests::reference::{self, Unit};
 
 fn sent(s: &reference::Sample) -> Sample {
-    let [along, vertical, airspeed, height, pitch, stall, climb, vs1, mode, deselect] = s.fields();
-    Sample { along, vertical, airspeed, height, pitch, stall, climb, vs1, mode, deselect }
+    Sample::from(s.fields())
 }
 
 /// The answer that the reference's answer stands for.

@@ -1,9 +1,28 @@
-// The unit for programs in other languages: C functions in a static library.
+// The unit and run files for programs in other languages: C functions in a static library.
 ghost use mathlib.Core.Path.{_≡_};
+ghost use lib.Ieee as Ieee;
+ghost use lib.Ieee.{binary32};
+ghost use lib.ListN.{length};
+ghost use Rattle.host.specs.Exported.{numberOf};
+ghost use Rattle.runfile.specs.Float.{convertedOf};
+ghost use Rattle.runfile.specs.Header.{writeHeaderRefusal, writtenHeader};
+ghost use Rattle.runfile.specs.Refusal.{writeRecordRefusal, writtenRecord};
+ghost use Rattle.runfile.specs.Run.{outcomeOf, writtenAnswers};
 ghost use Rattle.unit.specs.Steps.{freshState, offerOf};
+use runfile::Record;
+use runfile::float::Converted;
+use runfile::run::Outcome;
+use unit::Answer;
 use unit::Offered;
 use unit::Sample;
 use unit::State;
+
+// The hundredths of a float, cut at a million either way; finite is 0 where it is not, and the hundredths are 0.
+#[repr(C)]
+pub struct Hundredths {
+    pub finite: u16,
+    pub hundredths: i32,
+}
 
 // The state that has seen no sample.
 #[no_mangle]
@@ -19,4 +38,67 @@ pub extern "C" fn windshear_offer(state: State, sample: Sample) -> Offered
     ensures { λ r. ⌜ r ≡ offerOf state sample ⌝ }
 {
     state.offer(sample)
+}
+
+// A sample offered in the lent form: the answer, and the lent state is left as the state after it; a refused sample leaves it as it stood.
+#[no_mangle]
+pub extern "C" fn windshear_offer_lent(state: &mut State, sample: Sample) -> Answer
+    ensures { λ r. ⌜ (r ≡ offerOf (now (state .entry)) sample .answer) × (now (state .exit) ≡ offerOf (now (state .entry)) sample .state) ⌝ }
+{
+    let r = State::offer(*state, sample);
+    *state = r.state;
+    r.answer
+}
+
+// The lent form by value: the state is a local, and is lent for the call.
+pub fn offer_by_lending(state: State, sample: Sample) -> Offered
+    ensures plain { λ r. ⌜ r ≡ offerOf state sample ⌝ }
+{
+    let mut t = state;
+    let a = windshear_offer_lent(&mut t, sample);
+    Offered {
+        answer: a,
+        state: t,
+    }
+}
+
+// The hundredths that the float of a pattern becomes.
+#[no_mangle]
+pub extern "C" fn windshear_hundredths(bits: u32) -> Hundredths
+    ensures { λ r. ⌜ r ≡ numberOf (convertedOf (Ieee.ofBits binary32 bits)) ⌝ }
+{
+    match runfile::float::hundredths(bits) {
+        Converted::Hundredths(n) => Hundredths {
+            finite: 1,
+            hundredths: n,
+        },
+        Converted::NotFinite => Hundredths {
+            finite: 0,
+            hundredths: 0,
+        },
+    }
+}
+
+// Eight header bytes; or 5 or 7, and the buffer untouched.
+#[no_mangle]
+pub extern "C" fn windshear_write_header(count: u32, buf: &mut [u8]) -> u16
+    ensures { λ r. ⌜ (r ≡ writeHeaderRefusal count (length (now (buf .entry)))) × (now (buf .exit) ≡ writtenHeader count (now (buf .entry))) ⌝ }
+{
+    runfile::header::write(count, buf)
+}
+
+// 24 record bytes; or 7 or 11 to 20, and the buffer untouched.
+#[no_mangle]
+pub extern "C" fn windshear_write_record(record: Record, buf: &mut [u8]) -> u16
+    ensures { λ r. ⌜ (r ≡ writeRecordRefusal «record» (length (now (buf .entry)))) × (now (buf .exit) ≡ writtenRecord «record» (now (buf .entry))) ⌝ }
+{
+    runfile::records::write(record, buf)
+}
+
+// A whole run: ten answer bytes a record; or the refusal with its place, and the buffer untouched.
+#[no_mangle]
+pub extern "C" fn windshear_run(file: &[u8], answers: &mut [u8]) -> Outcome
+    ensures { λ r. ⌜ (r ≡ outcomeOf (now (file .entry)) (length (now (answers .entry)))) × (now (answers .exit) ≡ writtenAnswers (now (file .entry)) (now (answers .entry))) ⌝ }
+{
+    runfile::run::run(file, answers)
 }

@@ -16,23 +16,25 @@ use Rattle.rounding.specs.Fraction.{AllPositive}
 use Rattle.rounding.proofs.Difference.{any, nat, leD, ofSize}
 use Rattle.rounding.proofs.Fits.{exact, minus, size-ge}
 use Rattle.unit.specs.Choice.{pick, neg, within, same, anyOf, every}
-use Rattle.unit.specs.Claims.{stateAfter, answerTo, accepted, StatesPass, shows, AnswersByRules, RefusedIsNothing, Reaches, Below, lastAlert, Demand3At, Demand3}
+use Rattle.unit.specs.Claims.{stateAfter, answerTo, accepted, StatesPass, LeftPasses, shows, AnswersByRules, RefusedIsNothing, Reaches, Below, lastAlert, Demand3At, Demand3Lone}
 use Rattle.unit.specs.Rules as rules
 use Rattle.unit.specs.Rules.{refusal, change, exactShear, held, entries, Window, windows, inBand, lastOf, metUp, condition, redCondition, litFor, redFor, redLit, amberFor, amberLit, redComesOn, voiceFor, guidance, Guidance, off, on, isOn, commandOf, guidanceBy}
-use Rattle.unit.specs.Steps.{freshState, passes, refusedOf, refusalOf, offerOf, acceptOf, guideNext}
+use Rattle.unit.specs.Steps.{freshState, shearOf, pushed, windowsOf, lampsOf, voiceOf, guideOf, pitchOf, passes, refusedOf, refusalOf, offerOf, acceptOf, guideNext}
+use Rattle.unit.specs.declared.Answer.{Answer}
 use Rattle.unit.specs.declared.Offered.{Offered}
 use Rattle.unit.specs.declared.Sample.{Sample}
 use Rattle.unit.specs.declared.State.{State}
 use Rattle.unit.specs.declared.pitch.Guide.{Guide}
 use Rattle.unit.proofs.Averages.{table-met, table-unmet}
+use Rattle.unit.proofs.Choices.{pick-has}
 use Rattle.unit.proofs.Follow.{stateOf, toGuide, countOf, heldOf, lastAlong, lastMode, seenOf, accept-follows, guide-next, not-zero}
 use Rattle.unit.proofs.HeldShear.{shear-le}
-use Rattle.unit.proofs.PitchLaws.{count-le, command-ge, command-le, command-cap}
-use Rattle.unit.proofs.RangeLaws.{bounds, Fields, in-range-fields, in-range, Passing, passes-of}
+use Rattle.unit.proofs.PitchLaws.{lamp-le, unless-le, voice-le, count-le, command-ge, command-le, command-cap}
+use Rattle.unit.proofs.RangeLaws.{bounds, size-le, no-number, Fields, in-range-fields, in-range, Passing, passing, passes-of}
 
 -- ════ Accepted samples ════
 
-abbrev AllAccepted : List Sample → Type 0
+abbrev pub AllAccepted : List Sample → Type 0
 AllAccepted [] = Unit {0}
 AllAccepted (s ∷ l) = (refusal s ≡ 0) × AllAccepted l
 
@@ -44,6 +46,11 @@ accepted-all : (l : List Sample) → AllAccepted (accepted l)
 unfolding accepted
 accepted-all [] = tt
 accepted-all (s ∷ l) = pick-accepted s (accepted l) (eqb (refusal s) 0) refl (accepted-all l)
+
+pub accepted-same : (l : List Sample) → AllAccepted l → accepted l ≡ l
+unfolding accepted
+accepted-same [] h = refl
+accepted-same (s ∷ l) h = rw (eq-eqb (refusal s) 0 (h .0)) (ap (λ t. s ∷ t) (accepted-same l (h .1)))
 
 -- ════ The state that the rules give passes 8 ════
 
@@ -157,6 +164,39 @@ state-passes l h =
       mode-in = mode-fits l h;
     })
 
+-- ════ What an accepted sample leaves passes 8 ════
+
+at-most : {n k : ℕ} → n ≤ k → k ≤ 600 → n ≤ 600
+at-most h k = omega (arith, h, k)
+
+next-passing : (t : State) (s : Sample) → Passing t → refusal s ≡ 0 → Passing (acceptOf t s .state)
+unfolding acceptOf windowsOf pushed lampsOf voiceOf pitchOf guideOf shearOf every
+next-passing t s p h =
+    let f = in-range-fields s h in
+    let r = in-range s h in
+    let wind = size-le 20000 (bounds (p .along-in)) tt tt in
+    let turn =
+    pick-has (λ (x : ℤ). natAbs x ≤ 40000) (ltb 0 (t .core .seen)) (λ k. minus (exact (s .along) (r .along-le)) (exact (t .core .along) wind) .le) (λ k. lit≤ tt)
+    in
+    let shear = size-fits (shearOf t s) (shear-le _ (s .vertical) (s .airspeed) turn (r .vertical-le) (size-ge (s .airspeed) (r .airspeed-ge))) in
+    record {
+      held-in = rw shear (take-fit 199 (t .held) (p .held-in));
+      seen-le = lit≤ tt;
+      red-le = at-most (lamp-le _ _) (lit≤ tt);
+      amber-le = at-most (unless-le _ _) (at-most (lamp-le _ _) (lit≤ tt));
+      voice-le = at-most (voice-le _ _) (lit≤ tt);
+      guidance-le = count-le _ s _ (p .guidance-le);
+      command-in = within-of (command-ge _ s _ (bounds (p .command-in) .0) (bounds (f .pitch-in) .0) (bounds (f .stall-in) .0)) (command-le _ s _);
+      along-in = f .along-in;
+      mode-in = f .mode-in;
+    }
+
+pub left-passes : LeftPasses
+unfolding LeftPasses offerOf refusalOf
+left-passes t s e =
+    let b = no-number (passes t) (refusal s) e in
+    rw (eq-eqb (pick (passes t) (refusal s) 8) 0 e) (passes-of (acceptOf t s .state) (next-passing t s (passing t (b .0)) (b .1)))
+
 -- ════ The claims on states and answers ════
 
 -- what is left by an offer to a state that the rules give
@@ -249,7 +289,7 @@ two-red (s ∷ l) f = go (redLit (s ∷ l)) refl
     go true e = absurd (f (red-two s l e))
     go false e = e
 
-answer-is : (s : Sample) (before : List Sample) → refusal s ≡ 0 → answerTo s before ≡ shows s (accepted before)
+pub answer-is : (s : Sample) (before : List Sample) → refusal s ≡ 0 → answerTo s before ≡ shows s (accepted before)
 unfolding AnswersByRules
 answer-is s before e = answers-by-rules s before ∙ rw (eq-eqb (refusal s) 0 e)
 
@@ -302,29 +342,49 @@ module _ (before : List Sample) (s : Sample) (e : refusal s ≡ 0) where
   positive : AllPositive (entries rules.exact (s ∷ accepted before))
   positive = exact-positive (s ∷ accepted before) (e, accepted-all before)
 
-  lit : (w : Window) → List·Memᴰ w windows → inBand s ≡ true → Reaches (s ∷ accepted before) w → answerTo s before .alert ≡ 2
+  lit : (w : Window) → List·Memᴰ w windows → inBand s ≡ true → Reaches (s ∷ accepted before) w → eqb (answerTo s before .alert) 2 ≡ true
   lit w m b h =
-      alert-is ∙ red-two s (accepted before) (lit-by s (accepted before)
-      (condition-in s (accepted before) ∙ rw (b, table-met (s ∷ accepted before) positive windows w m h)))
+      eq-eqb _ 2 (alert-is ∙ red-two s (accepted before) (lit-by s (accepted before)
+      (condition-in s (accepted before) ∙ rw (b, table-met (s ∷ accepted before) positive windows w m h))))
 
-  dark : (lastAlert before ≡ 2 → ⊥) → (inBand s ≡ false) ⊎ ((w : Window) → List·Memᴰ w windows → Below (s ∷ accepted before) w)
-      → answerTo s before .alert ≡ 2 → ⊥
-  dark d why two =
-      dark-not s (accepted before)
-      (stays-dark s (accepted before) (two-red (accepted before) (λ k. d (last-is before ∙ k)))
+  dark : eqb (lastAlert before) 2 ≡ false → (inBand s ≡ false) ⊎ ((w : Window) → List·Memᴰ w windows → Below (s ∷ accepted before) w)
+      → eqb (answerTo s before .alert) 2 ≡ false
+  dark d why =
+      ne-eqb _ 2 (λ two. dark-not s (accepted before)
+      (stays-dark s (accepted before) (two-red (accepted before) (λ k. eqb-false _ 2 d (last-is before ∙ k)))
       (condition-in s (accepted before) ∙ ⊎-elim (λ b. rw b) (λ f. rw (table-unmet (s ∷ accepted before) positive windows f) (and-false (inBand s))) why))
-      (sym alert-is ∙ two)
+      (sym alert-is ∙ two))
     where
       and-false : (b : Bool) → (b && false) ≡ false
       and-false true = refl
       and-false false = refl
 
-  capped : answerTo s before .guidance ≡ 1 → (answerTo s before .command ≤ℤ pos 27000) × (answerTo s before .command ≤ℤ s .stall)
+  capped : eqb (answerTo s before .guidance) 1 ≡ true → (answerTo s before .command ≤ℤ pos 27000) × (answerTo s before .command ≤ℤ s .stall)
   unfolding shows
   capped g =
       let c = command-caps s (accepted before) in
-      rw (answer-is s before e) (c .0, c .1 (on-counts (guidance (s ∷ accepted before)) (sym (ap (λ a. a .guidance) (answer-is s before e)) ∙ g)))
+      let e = answer-is s before e in
+      rw e (c .0, c .1 (on-counts (guidance (s ∷ accepted before)) (sym (ap (λ a. a .guidance) e) ∙ eqb-true _ 1 g)))
 
-pub demand-3 : Demand3
-unfolding Demand3
-demand-3 before s e = record { lit = lit before s e; dark = dark before s e; capped = capped before s e }
+pub demand-3-lone : Demand3Lone
+unfolding Demand3Lone
+demand-3-lone before s e = record { lit = lit before s e; dark = dark before s e; capped = capped before s e }
+
+-- ════ What is shown fits its bytes ════
+
+pub record AnswerFits (a : Answer) : Type 0 where
+  pub alert-le : a .alert ≤ 2
+  pub guidance-le : a .guidance ≤ 1
+  pub command-ge : neg 30000 ≤ℤ a .command
+  pub command-le : a .command ≤ℤ pos 27000
+
+pub shows-fits : (s : Sample) (l : List Sample) → AllAccepted (s ∷ l) → AnswerFits (shows s l)
+unfolding shows
+shows-fits s l h =
+    let g = guide-fits (s ∷ l) h in
+    record {
+      alert-le = pick-has (λ (n : ℕ). n ≤ 2) (redLit (s ∷ l)) (λ e. lit≤ tt) (λ e. pick-has (λ (n : ℕ). n ≤ 2) (amberLit (s ∷ l)) (λ k. lit≤ tt) (λ k. lit≤ tt));
+      guidance-le = pick-has (λ (n : ℕ). n ≤ 1) (isOn (guidance (s ∷ l))) (λ e. lit≤ tt) (λ e. lit≤ tt);
+      command-ge = g .low;
+      command-le = g .high;
+    }

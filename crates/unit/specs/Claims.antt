@@ -11,7 +11,7 @@ use lib.Signed.{_≤ℤ_}
 use Rattle.rounding.specs.Fraction.{Fraction, _over_, _+F_, _≤F_, _<F_}
 use Rattle.unit.specs.Choice.{pick}
 use Rattle.unit.specs.Rules.{refusal, held, exact, entries, Window, windows, inBand, average, redLit, amberLit, voice, guidance, isOn, commandOf}
-use Rattle.unit.specs.Steps.{freshState, passes, refusedOf, offerOf}
+use Rattle.unit.specs.Steps.{freshState, passes, refusedOf, refusalOf, offerOf}
 use Rattle.unit.specs.declared.Answer.{Answer}
 use Rattle.unit.specs.declared.Offered.{Offered}
 use Rattle.unit.specs.declared.Sample.{Sample}
@@ -33,9 +33,13 @@ accepted (s ∷ before) = pick (eqb (refusal s) 0) (s ∷ accepted before) (acce
 
 -- ════ Claims on states and answers ════
 
--- refusal 8 fits no state that such a list leaves, the fresh one included
+-- "The fresh state passes 8": refusal 8 fits no state that such a list leaves, the fresh one included
 unfoldable pub StatesPass : Type 0
 StatesPass = (l : List Sample) → passes (stateAfter l) ≡ true
+
+-- "and so does every state left by an accepted sample", whatever state that passes it was offered to
+unfoldable pub LeftPasses : Type 0
+LeftPasses = (t : State) (s : Sample) → refusalOf t s ≡ 0 → passes (offerOf t s .state) ≡ true
 
 -- what the rules show at an accepted sample, as an answer
 unfoldable pub shows : Sample → List Sample → Answer
@@ -85,13 +89,18 @@ unfoldable pub lastAlert : List Sample → ℕ
 lastAlert [] = 0
 lastAlert (s ∷ before) = pick (eqb (refusal s) 0) (answerTo s before .alert) (lastAlert before)
 
--- one accepted sample s, offered after the list `before`: red is alert 2, and the command is shown where guidance is 1
-pub record Demand3At (s : Sample) (before : List Sample) : Type 0 where
-  pub lit : (w : Window) → List·Memᴰ w windows → inBand s ≡ true → Reaches (s ∷ accepted before) w → answerTo s before .alert ≡ 2
-  pub dark :
-      ((lastAlert before ≡ 2) → ⊥) → ((inBand s ≡ false) ⊎ ((w : Window) → List·Memᴰ w windows → Below (s ∷ accepted before) w))
-      → (answerTo s before .alert ≡ 2) → ⊥
-  pub capped : answerTo s before .guidance ≡ 1 → (answerTo s before .command ≤ℤ pos 27000) × (answerTo s before .command ≤ℤ s .stall)
+-- What demand 3 asks at one accepted sample s, with the accepted samples before it: whether red was lit at the one before (false where there was
+-- none) and is lit at this one, whether the command is shown, and the command. It says nothing of counters or arrays: averages come from the list.
+pub record Demand3At (s : Sample) (before : List Sample) (wasRed red shown : Bool) (command : ℤ) : Type 0 where
+  -- "red is lit where an exact average reaches its table value plus 0.000005 in the band"
+  pub lit : (w : Window) → List·Memᴰ w windows → inBand s ≡ true → Reaches (s ∷ before) w → red ≡ true
+  -- "a dark red lamp stays dark where all averages lie below by more than 0.000005 or the height is out of band"
+  pub dark : wasRed ≡ false → (inBand s ≡ false) ⊎ ((w : Window) → List·Memᴰ w windows → Below (s ∷ before) w) → red ≡ false
+  -- "the command shown is never above 27 degrees nor the sample's stall-warning pitch"
+  pub capped : shown ≡ true → (command ≤ℤ pos 27000) × (command ≤ℤ s .stall)
 
-unfoldable pub Demand3 : Type 0
-Demand3 = (before : List Sample) (s : Sample) → refusal s ≡ 0 → Demand3At s before
+-- at every accepted sample of every list: red is alert 2, and the command is shown where guidance is 1
+unfoldable pub Demand3Lone : Type 0
+Demand3Lone =
+    (before : List Sample) (s : Sample) → refusal s ≡ 0
+    → Demand3At s (accepted before) (eqb (lastAlert before) 2) (eqb (answerTo s before .alert) 2) (eqb (answerTo s before .guidance) 1) (answerTo s before .command)

@@ -2,6 +2,7 @@
 ghost use mathlib.Core.Path.{_≡_};
 ghost use Prim.Native.Nat.{_≤_};
 ghost use lib.IntN.{natAbs};
+ghost use Rattle.unit.specs.Rules.{refusal};
 ghost use Rattle.unit.specs.Steps.{freshState, Valid, InRange, shearOf, windowsOf, lampsOf, voiceOf, pitchOf, answerOf, acceptOf, offerOf};
 
 mod lamps;
@@ -69,6 +70,15 @@ pub struct Answer {
 pub struct Offered {
     pub answer: Answer,
     pub state: State,
+}
+
+impl Sample {
+    // 0, or the first of 11 to 20 that fits the sample.
+    pub fn refusal(self) -> u16
+        ensures { λ r. ⌜ r ≡ refusal self ⌝ }
+    {
+        ranges::refusal(self)
+    }
 }
 
 impl State {

@@ -8,17 +8,7 @@ use windshear_tests::reference::Unit;
 
 fn main() {
     let lists: Vec<_> = all_lists().into_iter().map(|(_, list)| list).filter(|l| l.len() > 1_000).collect();
-    let sent: Vec<Vec<Sample>> = lists
-        .iter()
-        .map(|l| {
-            l.iter()
-                .map(|s| {
-                    let [along, vertical, airspeed, height, pitch, stall, climb, vs1, mode, deselect] = s.fields();
-                    Sample { along, vertical, airspeed, height, pitch, stall, climb, vs1, mode, deselect }
-                })
-                .collect()
-        })
-        .collect();
+    let sent: Vec<Vec<Sample>> = lists.iter().map(|l| l.iter().map(|s| Sample::from(s.fields())).collect()).collect();
     let samples: usize = lists.iter().map(Vec::len).sum();
     let (mut proved, mut plain) = (f64::MAX, f64::MAX);
     for _ in 0..5 {

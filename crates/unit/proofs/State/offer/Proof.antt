@@ -8,7 +8,7 @@ use borrow.Author.Tests.{eq-eqb, ne-eqb}
 use Rattle.unit.specs.Choice.{pick}
 use Rattle.unit.specs.Rules.{refusal}
 use Rattle.unit.specs.Steps.{passes, refusedOf, refusalOf, offerOf}
-use Rattle.unit.proofs.RangeLaws.{in-range, valid}
+use Rattle.unit.proofs.RangeLaws.{no-number, in-range, valid}
 use Rattle.unit.proofs.State.offer.Statement.{statement}
 use Rattle.unit.proofs.State.offer.Tie as tie
 
@@ -25,14 +25,6 @@ number : (c : tie.After-first-of) → c .first-of .result ≡ refusalOf (c .befo
 unfolding refusalOf
 number c = c .first-of .ensures ∙ rw (c .before .refusal .ensures, c .before .before .passes .ensures)
 
--- no number fits: the state passes 8, and the sample is in range
-both : (ok : Bool) (n : ℕ) → pick ok n 8 ≡ 0 → (ok ≡ true) × (n ≡ 0)
-both true n e = (refl, e)
-both false n e = absurd (never e)
-  where
-    never : _≡_ {A = ℕ} 8 0 → ⊥
-    never e = omega arith
-
 fits : (c : tie.After-first-of) → c .first-of .result ≡ 0
     → pick (passes (c .before .before .before .args .self)) (refusal (c .before .before .before .args .s)) 8 ≡ 0
 unfolding refusalOf
@@ -41,7 +33,7 @@ fits c e = sym (number c) ∙ e
 accept-requires : tie.Need-accept-requires
 accept-requires c κs =
     let k = c .before .before .before .before in
-    let e = both (passes (k .args .self)) (refusal (k .args .s)) (fits (c .before) (c .if1 .taken)) in
+    let e = no-number (passes (k .args .self)) (refusal (k .args .s)) (fits (c .before) (c .if1 .taken)) in
     (valid (k .args .self) (e .0), in-range (k .args .s) (e .1))
 
 returns : tie.Need-returns

@@ -1,0 +1,4 @@
+pub mod TextCases
+pub mod TextLaws
+pub mod ListingLaws
+pub mod TotalClaims

@@ -1,0 +1,31 @@
+-- The listing that 01 works out, line by line, from the definitions: one list, one claim. Then a refusal, numbers below 0,
+-- and the greatest u32 with the least i32.
+use mathlib.Core.Bool.{true, false}
+use mathlib.Core.List.{List, [], _∷_}
+use mathlib.Core.Path.{_≡_, refl}
+use Prim.Native.Nat.{ℕ}
+use Prim.Native.String.{String}
+use lib.IntN.{pos, negℤ}
+use Rattle.catalog.specs.Text.{ascii, digit, digits, decimal, signed, alertWord, commandText}
+use Rattle.catalog.specs.Text.{headerText, lineText, totalText, refusedText}
+
+-- each text is what is printed beside it
+abbrev pub AllAre : List (List ℕ × String) → Type 0
+AllAre [] = Unit
+AllAre (row ∷ rows) = (row .0 ≡ ascii (row .1)) × AllAre rows
+
+abbrev pub cases : List (List ℕ × String)
+cases =
+    (headerText, "sample shear alert voice command\n")
+    ∷ (lineText 0 (pos 0) 0 0 false (pos 0), "0 0 none 0 off\n")
+    ∷ (lineText 1 (pos 2098349) 2 1 true (pos 5000), "1 2098349 red 1 5000\n")
+    ∷ (lineText 2 (pos 7143) 2 1 true (pos 5075), "2 7143 red 1 5075\n")
+    ∷ (totalText 1 0, "red 1 amber 0\n")
+    ∷ (refusedText 13 2, "refused 13 at 2\n")
+    ∷ (lineText 10 (negℤ (pos 38)) 1 0 true (negℤ (pos 30000)), "10 -38 amber 0 -30000\n")
+    ∷ (lineText 4294967295 (negℤ (pos 2147483648)) 2 3 false (pos 0), "4294967295 -2147483648 red 3 off\n")
+    ∷ []
+
+pub all-are : AllAre cases
+unfolding digit digits decimal signed alertWord commandText headerText lineText totalText refusedText
+all-are = (refl, (refl, (refl, (refl, (refl, (refl, (refl, (refl, tt))))))))

@@ -1,0 +1,497 @@
+//! The proved run files beside the reference: floats, writers and whole runs, of good and damaged bytes.
+
+use std::collections::BTreeMap;
+use std::fmt::Debug;
+use std::ops::RangeInclusive;
+use windshear::Outcome;
+use windshear_tests::examples::examples;
+use windshear_tests::files::{file_of, file_of_samples, record_of};
+use windshear_tests::gen::*;
+use windshear_tests::reference::{self, read_record, Record, RANGES};
+
+/// As the library cuts hundredths, at a million either way.
+fn cut(hundredths: i128) -> i32 {
+    hundredths.clamp(-1_000_000, 1_000_000) as i32
+}
+
+/// A pattern's hundredths, the same on both sides.
+fn convert(bits: u32) -> Option<i32> {
+    let found = windshear::hundredths(bits);
+    assert_eq!(found, reference::hundredths(bits).map(cut), "{bits:#010x}");
+    found
+}
+
+/// All signs and exponents, with mantissas beside every power of two and random ones; more where
+/// the hundredths are neither all 0 nor all cut.
+#[test]
+fn hundredths_of_every_sign_and_exponent() {
+    let mut rng = Rng::new(50);
+    let (mut compared, mut missing) = (0u64, 0u64);
+    for top in 0..512 {
+        let turning = (0..=23).flat_map(|k| [-1, 0, 1].map(|beside| (1 << k) + beside));
+        let all_alike = !(118..=141).contains(&(top % 256));
+        let random = (0..if all_alike { 8_000 } else { 100_000 }).map(|_| rng.draw() as i32);
+        for mantissa in turning.chain(random) {
+            let found = convert(top << 23 | mantissa as u32 & 0x7f_ffff);
+            missing += u64::from(found.is_none());
+            compared += 1;
+        }
+    }
+    println!("compared {compared} patterns' hundredths, {missing} not finite");
+    assert!(compared > 8_000_000 && missing == 2 * 8_072);
+}
+
+/// Every pattern that there is.
+#[test]
+#[ignore = "takes a minute"]
+fn hundredths_of_every_pattern() {
+    for bits in 0..=u32::MAX {
+        convert(bits);
+    }
+    println!("compared {} patterns' hundredths", 1_u64 << 32);
+}
+
+/// Only odd eighths of a knot are ties; all of them to beyond the cut, and their neighbours.
+#[test]
+fn ties_go_away_from_zero() {
+    let mut compared = 0u64;
+    for eighths in (1..=100_001).step_by(2) {
+        for sign in [1, -1] {
+            let bits = ((sign * eighths) as f32 / 8.0).to_bits();
+            let away = (25 * eighths + 1) / 2;
+            let signed = |size: i32| Some(cut((sign * size).into()));
+            assert_eq!(convert(bits), signed(away));
+            assert_eq!(convert(bits + 1), signed(away));
+            assert_eq!(convert(bits - 1), signed(away - 1));
+            compared += 3;
+        }
+    }
+    println!("compared {compared} ties and neighbours");
+}
+
+/// What stays around a lent buffer.
+const MARGIN: usize = 32;
+
+/// Lends the middle of a patterned buffer. The answer is the reference's, and so is every byte:
+/// those written, or all as before. Gives back the answer and what is in the lent part.
+fn lend<T: Copy + Debug + Default + PartialEq>(
+    len: usize,
+    call: impl FnOnce(&mut [u8]) -> T,
+    want: Result<impl AsRef<[u8]>, T>,
+) -> (T, Vec<u8>) {
+    let patterned = (0..len + 2 * MARGIN).map(|i| (167 * i + 59 * len + 11) as u8);
+    let mut expected: Vec<u8> = patterned.collect();
+    let mut buffer = expected.clone();
+    let answer = call(&mut buffer[MARGIN..][..len]);
+    if let Ok(bytes) = &want {
+        expected[MARGIN..][..len].copy_from_slice(bytes.as_ref());
+    }
+    assert_eq!(answer, want.err().unwrap_or_default());
+    assert!(
+        buffer == expected,
+        "{answer:?}: other bytes in a buffer of {len}"
+    );
+    (answer, buffer[MARGIN..][..len].to_vec())
+}
+
+fn refused(number: impl Into<u16>, place: usize) -> Outcome {
+    Outcome {
+        refusal: number.into(),
+        place: place as u16,
+    }
+}
+
+/// How much has been compared: answers of the functions, and buffers or their parts; and how often each number came.
+#[derive(Default)]
+struct Tally {
+    calls: u64,
+    parts: u64,
+    came: BTreeMap<u16, u64>,
+}
+
+impl Tally {
+    fn count(&mut self, number: u16, parts: usize) {
+        self.calls += 1;
+        self.parts += parts as u64;
+        *self.came.entry(number).or_default() += 1;
+    }
+
+    fn header(&mut self, count: u32, len: usize) -> Vec<u8> {
+        let want = reference::write_header(count, len).map_err(u16::from);
+        let (number, bytes) = lend(len, |buf| windshear::write_header(count, buf), want);
+        self.count(number, 1);
+        bytes
+    }
+
+    fn record(&mut self, r: &Record, len: usize) -> (u16, Vec<u8>) {
+        let sent = windshear::Record {
+            along: f32::from_bits(r.along),
+            vertical: f32::from_bits(r.vertical),
+            airspeed: f32::from_bits(r.airspeed),
+            height: r.height,
+            pitch: r.pitch,
+            stall: r.stall,
+            climb: r.climb,
+            vs1: r.vs1,
+            mode: r.mode,
+            deselect: r.deselect,
+        };
+        let want = reference::write_record(r, len).map_err(u16::from);
+        let (number, bytes) = lend(len, |buf| windshear::write_record(&sent, buf), want);
+        self.count(number, 1);
+        (number, bytes)
+    }
+
+    /// One run with an answer buffer so long; a part is an answer of ten bytes, or all that was untouched.
+    fn run(&mut self, file: &[u8], len: usize) -> (Outcome, Vec<u8>) {
+        let want = reference::run(file, len).map_err(|(number, at)| refused(number, at as usize));
+        let (outcome, bytes) = lend(len, |answers| windshear::run(file, answers), want);
+        let parts = if outcome.refusal == 0 { len / 10 } else { 1 };
+        self.count(outcome.refusal, parts);
+        (outcome, bytes)
+    }
+
+    /// A run with the right answer buffer, after others with wrong ones.
+    fn runs(&mut self, file: &[u8]) -> Outcome {
+        let right = right_len(file);
+        for wrong in [0, right.saturating_sub(1), right + 1, right + 10] {
+            self.run(file, wrong);
+        }
+        self.run(file, right).0
+    }
+
+    /// Prints the line, and tests that exactly these numbers came.
+    fn done(&self, what: &str, numbers: &[RangeInclusive<u16>]) {
+        let Tally { calls, parts, came } = self;
+        let compared = calls + parts;
+        println!("compared {compared} answers and buffers of {calls} {what}, by number {came:?}");
+        assert!(came.keys().copied().eq(numbers.iter().cloned().flatten()));
+    }
+}
+
+/// The length of the right answer buffer, as far as the header has a count that is not too large.
+fn right_len(file: &[u8]) -> usize {
+    let count = file
+        .get(6..8)
+        .map_or(0, |b| u16::from_le_bytes([b[0], b[1]]));
+    10 * usize::from(count.min(2_601))
+}
+
+/// The bytes of the record at a place.
+fn place_mut(file: &mut [u8], place: usize) -> &mut [u8] {
+    &mut file[8 + 24 * place..][..24]
+}
+
+fn calm_file(count: usize) -> Vec<u8> {
+    file_of(&vec![record_of(&CALM, 0.0); count])
+}
+
+/// A good file, its speeds anywhere within their hundredths.
+fn random_file(rng: &mut Rng, count: i32) -> Vec<u8> {
+    let list = if rng.one_in(2) {
+        gusts(rng, count)
+    } else {
+        (0..count).map(|_| random_sample(rng)).collect()
+    };
+    let records = list.iter().map(|s| record_of(s, within_half(rng)));
+    file_of(&records.collect::<Vec<_>>())
+}
+
+fn within_half(rng: &mut Rng) -> f64 {
+    f64::from(rng.within(-49, 49)) / 100.0
+}
+
+/// Every list, its accepted samples written by the library and read back by a run.
+#[test]
+fn lists_written_and_run() {
+    let mut rng = Rng::new(51);
+    let (mut written, mut run) = (Tally::default(), Tally::default());
+    for (name, list) in all_lists() {
+        let mut records = Vec::new();
+        for s in &list {
+            let record = record_of(s, within_half(&mut rng));
+            let (number, bytes) = written.record(&record, 24);
+            assert_eq!(number, reference::refusal(s).into(), "{name}: {s:?}");
+            if number == 0 {
+                assert_eq!(record.sample(), Ok(*s));
+                records.extend(bytes);
+            }
+        }
+        let count = records.len() / 24;
+        let file = [written.header(count as u32, 8), records].concat();
+        assert_eq!(run.run(&file, 10 * count).0, Outcome::default(), "{name}");
+    }
+    written.done("headers and records written", &[0..=0, 11..=20]);
+    run.done("files read back", &[0..=0]);
+}
+
+#[test]
+fn headers_written() {
+    let mut tally = Tally::default();
+    let large = [65_535, 65_536, 65_537, 68_136, 1 << 24, 1 << 31, u32::MAX];
+    for count in (0..=2_700).chain(large) {
+        for len in [0, 1, 6, 7, 8, 9, 10, 16, 24, 32] {
+            tally.header(count, len);
+        }
+    }
+    tally.done("headers written", &[0..=0, 5..=5, 7..=7]);
+}
+
+/// Where each field stands in a record: its first byte, and how many.
+const FIELDS: [(usize, usize); 10] = [
+    (0, 4),
+    (4, 4),
+    (8, 4),
+    (12, 2),
+    (14, 2),
+    (16, 2),
+    (18, 2),
+    (20, 2),
+    (22, 1),
+    (23, 1),
+];
+
+fn put(record: &mut [u8], field: usize, value: u32) {
+    let (at, size) = FIELDS[field];
+    record[at..at + size].copy_from_slice(&value.to_le_bytes()[..size]);
+}
+
+/// The calm record with one field replaced.
+fn calm_with(field: usize, value: u32) -> Record {
+    let mut bytes = record_of(&CALM, 0.0).bytes();
+    put(&mut bytes, field, value);
+    read_record(&bytes)
+}
+
+/// Half a step around zero and both ends of a field, as the floats beside it; every kind of float.
+fn floats((low, high): (i32, i32)) -> Vec<u32> {
+    let turning = [low, 0, high].into_iter().flat_map(|h| {
+        [-1.0, -0.5, 0.0, 0.5, 1.0].map(|more| (((f64::from(h) + more) / 100.0) as f32).to_bits())
+    });
+    let kinds = [
+        1,           // the least subnormal
+        0x007f_ffff, // the greatest
+        0x0080_0000, // the least normal
+        0x3e00_0000, // 0.125
+        0x4348_2000, // 200.125
+        0x4b80_0000, // 2^24
+        0x7f7f_ffff, // the greatest
+        0x7f80_0000, // infinity
+        0x7f80_0001, // signalling NaNs
+        0x7fbf_ffff,
+        0x7fc0_0000, // quiet ones
+        0x7fff_ffff,
+    ];
+    let beside = |bits: u32| [-2, -1, 0, 1, 2].map(|d| bits.wrapping_add_signed(d));
+    let near = turning.flat_map(beside).chain(kinds);
+    near.flat_map(|bits| [bits, bits ^ 1 << 31]).collect()
+}
+
+/// Values to put into a field, good and bad.
+fn values(field: usize) -> Vec<u32> {
+    let (low, high) = RANGES[field];
+    match FIELDS[field].1 {
+        4 => floats((low, high)),
+        2 => {
+            let ends = [low, high, 0].into_iter().flat_map(|end| end - 2..=end + 2);
+            let all = ends.chain([i16::MIN.into(), i16::MAX.into()]);
+            all.map(|value| value as u32).collect()
+        }
+        _ => (0..256).collect(),
+    }
+}
+
+/// Each field's values that are refused.
+fn bad_values() -> [Vec<u32>; 10] {
+    std::array::from_fn(|field| {
+        let refused = |&value: &u32| calm_with(field, value).sample().is_err();
+        values(field).into_iter().filter(refused).collect()
+    })
+}
+
+/// Each field at each of its values, written with buffers of all lengths, and run at every place of a file.
+#[test]
+fn every_value_in_every_field() {
+    let (mut written, mut run) = (Tally::default(), Tally::default());
+    for field in 0..10 {
+        for value in values(field) {
+            let record = calm_with(field, value);
+            let number = written.record(&record, 24).0;
+            assert!(number == 0 || number == 11 + field as u16);
+            for len in (0..=30).chain([48, 240]) {
+                written.record(&record, len);
+            }
+            for place in 0..3 {
+                let mut file = calm_file(3);
+                place_mut(&mut file, place).copy_from_slice(&record.bytes());
+                let place = if number == 0 { 0 } else { place };
+                assert_eq!(run.runs(&file), refused(number, place));
+            }
+        }
+    }
+    written.done("records written", &[0..=0, 7..=7, 11..=20]);
+    run.done("files with such a record", &[0..=0, 7..=7, 11..=20]);
+}
+
+/// Makes the fields of a set bad.
+fn spoil(rng: &mut Rng, bad: &[Vec<u32>; 10], record: &mut [u8], set: u32) {
+    for field in (0..10).filter(|field| set >> field & 1 == 1) {
+        put(record, field, rng.pick(&bad[field]));
+    }
+}
+
+/// Every set of bad fields in one record, with other bad records after it or not.
+#[test]
+fn first_bad_record_and_its_first_number() {
+    let (mut rng, bad) = (Rng::new(52), bad_values());
+    let mut tally = Tally::default();
+    for set in (1..1_024).cycle().take(12 * 1_023) {
+        let count = rng.within(1, 12) as usize;
+        let place = rng.within(0, count as i32 - 1) as usize;
+        let mut file = random_file(&mut rng, count as i32);
+        spoil(&mut rng, &bad, place_mut(&mut file, place), set);
+        let record = read_record(place_mut(&mut file, place));
+        for later in place + 1..count {
+            let set = rng.pick(&[0, 0, 1_023]) & rng.draw() as u32;
+            spoil(&mut rng, &bad, place_mut(&mut file, later), set);
+        }
+        let number = 11 + set.trailing_zeros() as u16;
+        assert_eq!(tally.runs(&file), refused(number, place));
+        assert_eq!(tally.record(&record, 24).0, number);
+        tally.record(&record, 23);
+    }
+    let long = random_file(&mut rng, 2_600);
+    assert_eq!(tally.runs(&long), Outcome::default());
+    for place in [0, 1, 255, 256, 1_300, 2_598, 2_599] {
+        for field in 0..10 {
+            let mut file = long.clone();
+            for later in [place, 2_599] {
+                spoil(&mut rng, &bad, place_mut(&mut file, later), 1 << field);
+            }
+            assert_eq!(tally.runs(&file), refused(11 + field as u16, place));
+        }
+    }
+    tally.done(
+        "files and records with bad fields",
+        &[0..=0, 7..=7, 11..=20],
+    );
+}
+
+/// Lengths around the right one, every value of every header byte, every set of defects in their order.
+#[test]
+fn headers_and_lengths() {
+    let mut tally = Tally::default();
+    for count in [0, 1, 2, 3, 2_599, 2_600, 2_601] {
+        let mut long = calm_file(count);
+        let right = long.len();
+        long.resize(right + 50, 0);
+        for len in (0..=8).chain(right.saturating_sub(50)..=right + 50) {
+            tally.runs(&long[..len]);
+        }
+    }
+    for count in [0, 1, 3] {
+        for at in 0..8 {
+            for byte in 0..=255 {
+                let mut file = calm_file(count);
+                file[at] = byte;
+                tally.runs(&file);
+            }
+        }
+    }
+    for set in 0..128_u32 {
+        for (variant, other) in [1, 2, 128, 255].into_iter().enumerate() {
+            let has = |k: u32| set >> k & 1 == 1;
+            let mut file = calm_file(if has(3) { 2_601 } else { 3 });
+            let mut spoiled = |k, at: usize| file[at] ^= if has(k) { other } else { 0 };
+            spoiled(0, variant.min(2));
+            spoiled(1, 3 + variant % 2);
+            spoiled(2, 5);
+            spoiled(6, 8 + 24 + 23);
+            if has(4) {
+                file.push(other);
+            }
+            let len = right_len(&file) + usize::from(has(5)) * variant.max(1);
+            // The last defect is of the second record: a deselect beyond 1, or not.
+            let numbers = [2, 3, 4, 5, 6, 7, if other > 1 { 20 } else { 0 }, 0];
+            let number: u16 = numbers[set.trailing_zeros().min(7) as usize];
+            let outcome = refused(number, usize::from(number == 20));
+            assert_eq!(tally.run(&file, len).0, outcome, "{set:b} {other}");
+        }
+    }
+    tally.done("files with other headers and lengths", &[0..=7, 20..=20]);
+}
+
+/// Bytes flipped, files cut short or long, answer buffers of another length, at random.
+#[test]
+fn damaged_files() {
+    let mut rng = Rng::new(53);
+    let mut tally = Tally::default();
+    let kept = examples().map(|(_, file)| file);
+    for _ in 0..40_000 {
+        let count = rng.within(0, 40);
+        let mut file = if rng.one_in(20) {
+            kept[rng.draw() as usize % kept.len()].clone()
+        } else {
+            random_file(&mut rng, count)
+        };
+        for _ in 0..rng.within(0, 3) {
+            let end = if rng.one_in(4) { 8 } else { file.len() };
+            let at = rng.draw() as usize % end;
+            file[at] = match rng.within(0, 3) {
+                0 => rng.draw() as u8,
+                1 => rng.pick(&[0, 255]),
+                _ => file[at] ^ 1 << rng.within(0, 7),
+            };
+        }
+        if rng.one_in(6) {
+            file.truncate(rng.draw() as usize % file.len());
+        }
+        if rng.one_in(10) {
+            file.resize(file.len() + rng.within(1, 30) as usize, rng.draw() as u8);
+        }
+        let right = right_len(&file);
+        let wrong = rng.pick(&[right + 1, right + 10, right.saturating_sub(1), right / 2]);
+        tally.run(&file, if rng.one_in(8) { wrong } else { right });
+        let raw: [u8; 24] = std::array::from_fn(|_| rng.draw() as u8);
+        tally.record(&read_record(&raw), 24);
+    }
+    tally.done("damaged files and random records", &[0..=7, 11..=20]);
+}
+
+/// 01, "The six windows": the test rows of 000 through whole runs, each exposure flat, made by the
+/// vertical wind, by the along wind, or by both: exactly the average or the next above it.
+#[test]
+fn test_rows() {
+    let mut tally = Tally::default();
+    for ((average, exposed, limits), (sign, alert)) in TEST_ROWS
+        .into_iter()
+        .flat_map(|row| WAYS.map(|way| (row, way)))
+    {
+        // A change of a hundredth of a knot is a shear of 1,852,000,000 / 1,765,197 as held.
+        let due = average as u64 * 1_765_197;
+        let whole = due.div_ceil(1_852_000_000);
+        for change in [0, whole / 2, whole - 1, whole] {
+            for airspeed in [6_000, 10_000, 14_000, 20_000, 30_000] {
+                let rest = due.saturating_sub(change * 1_852_000_000);
+                let sinking = (rest * airspeed).div_ceil(100_000 * 1_765_197);
+                let list = series(20 + exposed + 70, |i, s| {
+                    s.along = sign * change as i32 * (i - 19).clamp(0, exposed);
+                    if (20..20 + exposed).contains(&i) {
+                        s.vertical = -sign * sinking as i32;
+                        s.airspeed = airspeed as i32;
+                    }
+                });
+                let (outcome, answers) = tally.run(&file_of_samples(&list), 10 * list.len());
+                let alerts: Vec<u8> = answers.iter().step_by(10).copied().collect();
+                let held = i32::from_le_bytes(answers[10 * 20 + 4..][..4].try_into().unwrap());
+                assert_eq!(outcome, Outcome::default());
+                assert!((average..average + 1_050).contains(&(sign * held)));
+                assert!(
+                    meets_row(&alerts, 20, alert, limits),
+                    "{average} {sign} {change} {airspeed}"
+                );
+            }
+        }
+    }
+    tally.done("files of the test rows", &[0..=0]);
+}
