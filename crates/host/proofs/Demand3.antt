@@ -1,4 +1,5 @@
 -- Demand 3, whole: both forms cite one definition, so a mixed list is a list in the plain form.
+use mathlib.Core.Bool.{cond}
 use mathlib.Core.List.{List, [], _∷_, map}
 use mathlib.Core.Path.{_≡_, refl, ap, _∙_}
 use Prim.Native.Nat.{ℕ}
@@ -6,7 +7,6 @@ use lib.Dec.{eqb}
 use Rattle.host.specs.Demand3.{Form, plain, lent, Offer, offeredIn, stateLeft, answerGiven, acceptedOf, alertShown, Demand3}
 use Rattle.runfile.proofs.RunClaims.{demand-3-run}
 use Rattle.unit.proofs.Claims.{states-pass, answers-by-rules, demand-3-lone}
-use Rattle.unit.specs.Choice.{pick}
 use Rattle.unit.specs.Claims.{stateAfter, answerTo, lastAlert, StatesPass, AnswersByRules, Demand3Lone}
 use Rattle.unit.specs.Rules.{refusal}
 use Rattle.unit.specs.Steps.{offerOf}
@@ -33,7 +33,7 @@ answer-same o l = ap (λ r. r .answer) (either-form (o .form) (stateLeft l) (o .
 alert-same : (l : List Offer) → alertShown l ≡ lastAlert (samples l)
 unfolding alertShown lastAlert
 alert-same [] = refl
-alert-same (o ∷ l) = ap (λ a. pick (eqb (refusal (o .sample)) 0) (a .alert) (alertShown l)) (answer-same o l) ∙ ap (λ n. pick (eqb (refusal (o .sample)) 0) (answerTo (o .sample) (samples l) .alert) n) (alert-same l)
+alert-same (o ∷ l) = ap (λ a. cond (eqb (refusal (o .sample)) 0) (a .alert) (alertShown l)) (answer-same o l) ∙ ap (λ n. cond (eqb (refusal (o .sample)) 0) (answerTo (o .sample) (samples l) .alert) n) (alert-same l)
 
 pub demand-3 : Demand3
 unfolding acceptedOf StatesPass AnswersByRules Demand3Lone

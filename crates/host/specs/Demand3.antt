@@ -4,12 +4,11 @@
 -- that the unit itself keeps: averages are of exact shears, unrounded, from the list alone, so a unit that rounded or stored them wrongly would
 -- still be held to it.
 use mathlib.Core.List.{List, [], _∷_, map}
-use mathlib.Core.Bool.{true}
+use mathlib.Core.Bool.{true, cond}
 use mathlib.Core.Path.{_≡_}
 use Prim.Native.Nat.{ℕ}
 use lib.Dec.{eqb}
 use Rattle.runfile.specs.Claims.{Demand3Run}
-use Rattle.unit.specs.Choice.{pick}
 use Rattle.unit.specs.Claims.{accepted, shows, Demand3At}
 use Rattle.unit.specs.Rules.{refusal}
 use Rattle.unit.specs.Steps.{freshState, passes, refusedOf, offerOf}
@@ -46,7 +45,7 @@ acceptedOf l = accepted (map (λ o. o .sample) l)
 -- the alert that the last accepted sample's answer showed; 0 where there was none
 unfoldable pub alertShown : List Offer → ℕ
 alertShown [] = 0
-alertShown (o ∷ before) = pick (eqb (refusal (o .sample)) 0) (answerGiven o before .alert) (alertShown before)
+alertShown (o ∷ before) = cond (eqb (refusal (o .sample)) 0) (answerGiven o before .alert) (alertShown before)
 
 pub record Demand3 : Type 0 where
   -- "8 never comes here"
@@ -54,7 +53,7 @@ pub record Demand3 : Type 0 where
   -- "that lamp, the command and whether it is shown are those that .. give for the list"; at a refused sample, the first number that fits it
   pub rules :
       (before : List Offer) (o : Offer)
-      → answerGiven o before ≡ pick (eqb (refusal (o .sample)) 0) (shows (o .sample) (acceptedOf before)) (refusedOf (refusal (o .sample)))
+      → answerGiven o before ≡ cond (eqb (refusal (o .sample)) 0) (shows (o .sample) (acceptedOf before)) (refusedOf (refusal (o .sample)))
   pub lone :
       (before : List Offer) (o : Offer) → refusal (o .sample) ≡ 0
       → Demand3At (o .sample) (acceptedOf before) (eqb (alertShown before) 2) (eqb (answerGiven o before .alert) 2) (eqb (answerGiven o before .guidance) 1) (answerGiven o before .command)

@@ -4,13 +4,13 @@ ghost use lib.Ieee as Ieee;
 ghost use lib.Ieee.{binary32};
 ghost use lib.ListN.{length};
 ghost use Rattle.host.specs.Exported.{numberOf};
-ghost use Rattle.runfile.specs.Float.{convertedOf};
-ghost use Rattle.runfile.specs.Header.{writeHeaderRefusal, writtenHeader};
-ghost use Rattle.runfile.specs.Refusal.{writeRecordRefusal, writtenRecord};
+ghost use Rattle.format.specs.Float.{convertedOf};
+ghost use Rattle.format.specs.Header.{writeHeaderRefusal, writtenHeader};
+ghost use Rattle.format.specs.Refusal.{writeRecordRefusal, writtenRecord};
 ghost use Rattle.runfile.specs.Run.{outcomeOf, writtenAnswers};
 ghost use Rattle.unit.specs.Steps.{freshState, offerOf};
-use runfile::Record;
-use runfile::float::Converted;
+use format::Record;
+use format::float::Converted;
 use runfile::run::Outcome;
 use unit::Answer;
 use unit::Offered;
@@ -67,7 +67,7 @@ pub fn offer_by_lending(state: State, sample: Sample) -> Offered
 pub extern "C" fn windshear_hundredths(bits: u32) -> Hundredths
     ensures { λ r. ⌜ r ≡ numberOf (convertedOf (Ieee.ofBits binary32 bits)) ⌝ }
 {
-    match runfile::float::hundredths(bits) {
+    match format::float::hundredths(bits) {
         Converted::Hundredths(n) => Hundredths {
             finite: 1,
             hundredths: n,
@@ -84,7 +84,7 @@ pub extern "C" fn windshear_hundredths(bits: u32) -> Hundredths
 pub extern "C" fn windshear_write_header(count: u32, buf: &mut [u8]) -> u16
     ensures { λ r. ⌜ (r ≡ writeHeaderRefusal count (length (now (buf .entry)))) × (now (buf .exit) ≡ writtenHeader count (now (buf .entry))) ⌝ }
 {
-    runfile::header::write(count, buf)
+    format::header::write(count, buf)
 }
 
 // 24 record bytes; or 7 or 11 to 20, and the buffer untouched.
@@ -92,7 +92,7 @@ pub extern "C" fn windshear_write_header(count: u32, buf: &mut [u8]) -> u16
 pub extern "C" fn windshear_write_record(record: Record, buf: &mut [u8]) -> u16
     ensures { λ r. ⌜ (r ≡ writeRecordRefusal «record» (length (now (buf .entry)))) × (now (buf .exit) ≡ writtenRecord «record» (now (buf .entry))) ⌝ }
 {
-    runfile::records::write(record, buf)
+    format::records::write(record, buf)
 }
 
 // A whole run: ten answer bytes a record; or the refusal with its place, and the buffer untouched.

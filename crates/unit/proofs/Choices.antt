@@ -1,6 +1,6 @@
 -- Laws of the choices and comparisons that the rules are written with.
 use mathlib.Core.Path.{_≡_, refl, sym, subst}
-use mathlib.Core.Bool.{Bool, true, false, not}
+use mathlib.Core.Bool.{Bool, true, false, not, cond}
 use Prim.Native.Nat.{ℕ}
 use native.Mathlib.Omega.{arith}
 use borrow.Author.Tests.{lt-ltb, le-ltb, leb-true, leb-false}
@@ -8,12 +8,12 @@ use lib.Dec.{T, ltb, leb}
 use lib.IntN.{ℤ, pos, negsuc}
 use lib.Signed.{ltZ, leZ, _≤ℤ_, _<ℤ_, ≤ℤ-refl, ltZ-no}
 use Rattle.rounding.proofs.Difference.{any, leD, ofLe, ofLt}
-use Rattle.unit.specs.Choice.{pick, smaller, larger}
+use Rattle.unit.specs.Choice.{smaller, larger}
 
 -- what holds of each of two, where the test picks it, holds of the one that is picked
-pub pick-has {ℓ} : {A : Type ℓ} (P : A → Type 0) (t : Bool) {a b : A} → (t ≡ true → P a) → (t ≡ false → P b) → P (pick t a b)
-pick-has P true f g = f refl
-pick-has P false f g = g refl
+pub cond-has {ℓ} : {A : Type ℓ} (P : A → Type 0) (t : Bool) {a b : A} → (t ≡ true → P a) → (t ≡ false → P b) → P (cond t a b)
+cond-has P true f g = f refl
+cond-has P false f g = g refl
 
 -- the one order by the other
 ltb-not : (a b : ℕ) → ltb a b ≡ not (leb b a)
@@ -43,16 +43,16 @@ pub ≤ℤ-trans : {a b c : ℤ} → a ≤ℤ b → b ≤ℤ c → a ≤ℤ c
 
 pub smaller-le-left : (a b : ℤ) → smaller a b ≤ℤ a
 unfolding smaller
-smaller-le-left a b = pick-has (λ (x : ℤ). x ≤ℤ a) (ltZ a b) (λ e. ≤ℤ-refl a) (not-below-le a b)
+smaller-le-left a b = cond-has (λ (x : ℤ). x ≤ℤ a) (ltZ a b) (λ e. ≤ℤ-refl a) (not-below-le a b)
 
 pub smaller-le-right : (a b : ℤ) → smaller a b ≤ℤ b
 unfolding smaller
-smaller-le-right a b = pick-has (λ (x : ℤ). x ≤ℤ b) (ltZ a b) (below-le a b) (λ e. ≤ℤ-refl b)
+smaller-le-right a b = cond-has (λ (x : ℤ). x ≤ℤ b) (ltZ a b) (below-le a b) (λ e. ≤ℤ-refl b)
 
 pub smaller-ge : {m a b : ℤ} → m ≤ℤ a → m ≤ℤ b → m ≤ℤ smaller a b
 unfolding smaller
-smaller-ge {m} {a} {b} h k = pick-has (λ (x : ℤ). m ≤ℤ x) (ltZ a b) (λ e. h) (λ e. k)
+smaller-ge {m} {a} {b} h k = cond-has (λ (x : ℤ). m ≤ℤ x) (ltZ a b) (λ e. h) (λ e. k)
 
 pub larger-ge-left : (a b : ℤ) → a ≤ℤ larger a b
 unfolding larger
-larger-ge-left a b = pick-has (λ (x : ℤ). a ≤ℤ x) (ltZ a b) (below-le a b) (λ e. ≤ℤ-refl a)
+larger-ge-left a b = cond-has (λ (x : ℤ). a ≤ℤ x) (ltZ a b) (below-le a b) (λ e. ≤ℤ-refl a)

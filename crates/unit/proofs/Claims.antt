@@ -1,6 +1,6 @@
 -- The claims of specs/Claims.antt, proved: the state follows the rules (Follow.antt) and passes refusal 8, so every answer is the rules'; and the
 -- window argument (Averages.antt) gives demand 3.
-use mathlib.Core.Bool.{Bool, true, false, _&&_, _||_}
+use mathlib.Core.Bool.{Bool, true, false, _&&_, _||_, cond}
 use mathlib.Core.List.{List, [], _∷_, _++_, List·Memᴰ}
 use mathlib.Core.Logic.{_⊎_, ⊎-elim}
 use mathlib.Core.Path.{_≡_, refl, sym, ap, _∙_, subst}
@@ -15,7 +15,7 @@ use lib.Signed.{leZ, _≤ℤ_, leZ-yes}
 use Rattle.rounding.specs.Fraction.{AllPositive}
 use Rattle.rounding.proofs.Difference.{any, nat, leD, ofSize}
 use Rattle.rounding.proofs.Fits.{exact, minus, size-ge}
-use Rattle.unit.specs.Choice.{pick, neg, within, same, anyOf, every}
+use Rattle.unit.specs.Choice.{neg, within, same, anyOf, every}
 use Rattle.unit.specs.Claims.{stateAfter, answerTo, accepted, StatesPass, LeftPasses, shows, AnswersByRules, RefusedIsNothing, Reaches, Below, lastAlert, Demand3At, Demand3Lone}
 use Rattle.unit.specs.Rules as rules
 use Rattle.unit.specs.Rules.{refusal, change, exactShear, held, entries, Window, windows, inBand, lastOf, metUp, condition, redCondition, litFor, redFor, redLit, amberFor, amberLit, redComesOn, voiceFor, guidance, Guidance, off, on, isOn, commandOf, guidanceBy}
@@ -26,7 +26,7 @@ use Rattle.unit.specs.declared.Sample.{Sample}
 use Rattle.unit.specs.declared.State.{State}
 use Rattle.unit.specs.declared.pitch.Guide.{Guide}
 use Rattle.unit.proofs.Averages.{table-met, table-unmet}
-use Rattle.unit.proofs.Choices.{pick-has}
+use Rattle.unit.proofs.Choices.{cond-has}
 use Rattle.unit.proofs.Follow.{stateOf, toGuide, countOf, heldOf, lastAlong, lastMode, seenOf, accept-follows, guide-next, not-zero}
 use Rattle.unit.proofs.HeldShear.{shear-le}
 use Rattle.unit.proofs.PitchLaws.{lamp-le, unless-le, voice-le, count-le, command-ge, command-le, command-cap}
@@ -38,14 +38,14 @@ abbrev pub AllAccepted : List Sample → Type 0
 AllAccepted [] = Unit {0}
 AllAccepted (s ∷ l) = (refusal s ≡ 0) × AllAccepted l
 
-pick-accepted : (s : Sample) (l : List Sample) (t : Bool) → eqb (refusal s) 0 ≡ t → AllAccepted l → AllAccepted (pick t (s ∷ l) l)
-pick-accepted s l true e h = (eqb-true (refusal s) 0 e, h)
-pick-accepted s l false e h = h
+cond-accepted : (s : Sample) (l : List Sample) (t : Bool) → eqb (refusal s) 0 ≡ t → AllAccepted l → AllAccepted (cond t (s ∷ l) l)
+cond-accepted s l true e h = (eqb-true (refusal s) 0 e, h)
+cond-accepted s l false e h = h
 
 accepted-all : (l : List Sample) → AllAccepted (accepted l)
 unfolding accepted
 accepted-all [] = tt
-accepted-all (s ∷ l) = pick-accepted s (accepted l) (eqb (refusal s) 0) refl (accepted-all l)
+accepted-all (s ∷ l) = cond-accepted s (accepted l) (eqb (refusal s) 0) refl (accepted-all l)
 
 pub accepted-same : (l : List Sample) → AllAccepted l → accepted l ≡ l
 unfolding accepted
@@ -176,7 +176,7 @@ next-passing t s p h =
     let r = in-range s h in
     let wind = size-le 20000 (bounds (p .along-in)) tt tt in
     let turn =
-    pick-has (λ (x : ℤ). natAbs x ≤ 40000) (ltb 0 (t .core .seen)) (λ k. minus (exact (s .along) (r .along-le)) (exact (t .core .along) wind) .le) (λ k. lit≤ tt)
+    cond-has (λ (x : ℤ). natAbs x ≤ 40000) (ltb 0 (t .core .seen)) (λ k. minus (exact (s .along) (r .along-le)) (exact (t .core .along) wind) .le) (λ k. lit≤ tt)
     in
     let shear = size-fits (shearOf t s) (shear-le _ (s .vertical) (s .airspeed) turn (r .vertical-le) (size-ge (s .airspeed) (r .airspeed-ge))) in
     record {
@@ -195,7 +195,7 @@ pub left-passes : LeftPasses
 unfolding LeftPasses offerOf refusalOf
 left-passes t s e =
     let b = no-number (passes t) (refusal s) e in
-    rw (eq-eqb (pick (passes t) (refusal s) 8) 0 e) (passes-of (acceptOf t s .state) (next-passing t s (passing t (b .0)) (b .1)))
+    rw (eq-eqb (cond (passes t) (refusal s) 8) 0 e) (passes-of (acceptOf t s .state) (next-passing t s (passing t (b .0)) (b .1)))
 
 -- ════ The claims on states and answers ════
 
@@ -206,7 +206,7 @@ left s l = record { answer = shows s l; state = stateOf (s ∷ l) }
 refused : Sample → List Sample → Offered
 refused s l = record { answer = refusedOf (refusal s); state = stateOf l }
 
-offer-follows : (s : Sample) (l : List Sample) → AllAccepted l → offerOf (stateOf l) s ≡ pick (eqb (refusal s) 0) (left s l) (refused s l)
+offer-follows : (s : Sample) (l : List Sample) → AllAccepted l → offerOf (stateOf l) s ≡ cond (eqb (refusal s) 0) (left s l) (refused s l)
 unfolding offerOf refusalOf left refused
 offer-follows s l h = rw (state-passes l h, accept-follows s l)
 
@@ -214,11 +214,11 @@ fresh-follows : freshState ≡ stateOf []
 unfolding freshState stateOf lastOf entries redFor litFor amberFor voiceFor guidance guidanceBy commandOf
 fresh-follows = refl
 
-offer-leaves : (s : Sample) (l : List Sample) → AllAccepted l → offerOf (stateOf l) s .state ≡ stateOf (pick (eqb (refusal s) 0) (s ∷ l) l)
+offer-leaves : (s : Sample) (l : List Sample) → AllAccepted l → offerOf (stateOf l) s .state ≡ stateOf (cond (eqb (refusal s) 0) (s ∷ l) l)
 unfolding left refused
 offer-leaves s l h = rw (offer-follows s l h) (go (eqb (refusal s) 0))
   where
-    go : (t : Bool) → pick t (left s l) (refused s l) .state ≡ stateOf (pick t (s ∷ l) l)
+    go : (t : Bool) → cond t (left s l) (refused s l) .state ≡ stateOf (cond t (s ∷ l) l)
     go true = refl
     go false = refl
 
@@ -231,11 +231,11 @@ pub states-pass : StatesPass
 unfolding StatesPass
 states-pass l = rw (state-follows l) (state-passes (accepted l) (accepted-all l))
 
-offer-answers : (s : Sample) (l : List Sample) → AllAccepted l → offerOf (stateOf l) s .answer ≡ pick (eqb (refusal s) 0) (shows s l) (refusedOf (refusal s))
+offer-answers : (s : Sample) (l : List Sample) → AllAccepted l → offerOf (stateOf l) s .answer ≡ cond (eqb (refusal s) 0) (shows s l) (refusedOf (refusal s))
 unfolding left refused
 offer-answers s l h = rw (offer-follows s l h) (go (eqb (refusal s) 0))
   where
-    go : (t : Bool) → pick t (left s l) (refused s l) .answer ≡ pick t (shows s l) (refusedOf (refusal s))
+    go : (t : Bool) → cond t (left s l) (refused s l) .answer ≡ cond t (shows s l) (refusedOf (refusal s))
     go true = refl
     go false = refl
 
@@ -268,7 +268,7 @@ alert-of : List Sample → ℕ
 alert-of [] = 0
 alert-of (s ∷ l) = shows s l .alert
 
-not-two : (b : Bool) → _≡_ {A = ℕ} (pick b 1 0) 2 → ⊥
+not-two : (b : Bool) → _≡_ {A = ℕ} (cond b 1 0) 2 → ⊥
 not-two true e = omega arith
 not-two false e = omega arith
 
@@ -299,12 +299,12 @@ last-is [] = refl
 last-is (s ∷ l) = go (last-is l) (eqb (refusal s) 0) refl
   where
     go : lastAlert l ≡ alert-of (accepted l) → (t : Bool) → eqb (refusal s) 0 ≡ t
-        → pick t (answerTo s l .alert) (lastAlert l) ≡ alert-of (pick t (s ∷ accepted l) (accepted l))
+        → cond t (answerTo s l .alert) (lastAlert l) ≡ alert-of (cond t (s ∷ accepted l) (accepted l))
     go h true e = ap (λ a. a .alert) (answer-is s l (eqb-true (refusal s) 0 e))
     go h false e = h
 
 -- red is lit where its condition holds; dark before and without its condition, it stays dark
-red-step : (s : Sample) (l : List Sample) → redFor (s ∷ l) ≡ pick (redCondition (s ∷ l) || (redLit l && ltb (redFor l) 60)) (redFor l + 1) 0
+red-step : (s : Sample) (l : List Sample) → redFor (s ∷ l) ≡ cond (redCondition (s ∷ l) || (redLit l && ltb (redFor l) 60)) (redFor l + 1) 0
 unfolding redFor litFor redLit
 red-step s l = refl
 
@@ -321,7 +321,7 @@ unfolding redCondition condition
 condition-in s l = refl
 
 -- where guidance is shown it is on
-on-counts : (g : Guidance) → _≡_ {A = ℕ} (pick (isOn g) 1 0) 1 → countOf g ≡ 0 → ⊥
+on-counts : (g : Guidance) → _≡_ {A = ℕ} (cond (isOn g) 1 0) 1 → countOf g ≡ 0 → ⊥
 unfolding isOn
 on-counts off e z = omega arith
 on-counts (on n c) e z = omega arith
@@ -383,8 +383,8 @@ unfolding shows
 shows-fits s l h =
     let g = guide-fits (s ∷ l) h in
     record {
-      alert-le = pick-has (λ (n : ℕ). n ≤ 2) (redLit (s ∷ l)) (λ e. lit≤ tt) (λ e. pick-has (λ (n : ℕ). n ≤ 2) (amberLit (s ∷ l)) (λ k. lit≤ tt) (λ k. lit≤ tt));
-      guidance-le = pick-has (λ (n : ℕ). n ≤ 1) (isOn (guidance (s ∷ l))) (λ e. lit≤ tt) (λ e. lit≤ tt);
+      alert-le = cond-has (λ (n : ℕ). n ≤ 2) (redLit (s ∷ l)) (λ e. lit≤ tt) (λ e. cond-has (λ (n : ℕ). n ≤ 2) (amberLit (s ∷ l)) (λ k. lit≤ tt) (λ k. lit≤ tt));
+      guidance-le = cond-has (λ (n : ℕ). n ≤ 1) (isOn (guidance (s ∷ l))) (λ e. lit≤ tt) (λ e. lit≤ tt);
       command-ge = g .low;
       command-le = g .high;
     }

@@ -1,6 +1,6 @@
 -- The state follows the rules: offered one after another, accepted samples leave the state that the rules give, each counter as it is up to
 -- where it stops, and the answers are those of the rules.
-use mathlib.Core.Bool.{Bool, true, false, not, _&&_, _||_}
+use mathlib.Core.Bool.{Bool, true, false, not, _&&_, _||_, cond}
 use mathlib.Core.List.{List, [], _∷_, _++_, append-assoc}
 use mathlib.Core.Path.{_≡_, refl, sym, ap, _∙_}
 use Prim.Native.Nat.{ℕ, zero, suc, _+_, _*_, _-_, _≤_, _<_, min}
@@ -13,7 +13,7 @@ use lib.Seq.{take-take, take-append-le, length-take-le}
 use lib.Signed.{leZ}
 use native.Mathlib.Decide.{decLt}
 use Rattle.rounding.specs.Fraction.{sumℤ}
-use Rattle.unit.specs.Choice.{pick, within, same, smaller, anyOf}
+use Rattle.unit.specs.Choice.{within, same, smaller, anyOf}
 use Rattle.unit.specs.Claims.{shows}
 use Rattle.unit.specs.Rules.{change, held, entries, row, windows, lastOf, windowSum, metUp, metDown, inBand, condition, redCondition, amberCondition, litFor, redFor, redLit, redComesOn, amberFor, amberLit, modeChange, voiceFor, cycle, voice, counted, cap, towards, Guidance, off, on, guided, guidanceBy, guidance, isOn, commandOf}
 use Rattle.unit.specs.Steps.{pushed, sumsOf, metOf, shearOf, windowsOf, lampNext, unlessLit, lampsOf, changedOf, keptOf, voiceNext, voiceOf, noGuide, startedOf, continuedOf, guideNext, guideOf, pitchOf, alertOf, shownOf, answerOf, acceptOf}
@@ -110,11 +110,11 @@ min-at n k h = omega arith
 min-below : (n k : ℕ) → n ≤ k → min n k ≡ n
 min-below n k h = omega arith
 
-lamp-follows : (n : ℕ) (b : Bool) → lampNext (min n 60) b ≡ min (pick (b || (ltb 0 n && ltb n 60)) (n + 1) 0) 60
+lamp-follows : (n : ℕ) (b : Bool) → lampNext (min n 60) b ≡ min (cond (b || (ltb 0 n && ltb n 60)) (n + 1) 0) 60
 unfolding lampNext
 lamp-follows n b = go (stand n 60) b
   where
-    go : Stand n 60 → (b : Bool) → lampNext (min n 60) b ≡ min (pick (b || (ltb 0 n && ltb n 60)) (n + 1) 0) 60
+    go : Stand n 60 → (b : Bool) → lampNext (min n 60) b ≡ min (cond (b || (ltb 0 n && ltb n 60)) (n + 1) 0) 60
     go (none e) true = rw e
     go (none e) false = rw e
     go (short p h) true = rw (min-below n 60 (omega arith), not-zero n p, lt-ltb n 60 h) (sym (min-below (n + 1) 60 (omega arith)))
@@ -139,25 +139,25 @@ comes-follows n = go (stand n 60)
         many n h e = omega arith
 
 amber-follows : (r n : ℕ) (b : Bool)
-    → unlessLit (min r 60) (lampNext (min n 60) b) ≡ min (pick (ltb 0 r) 0 (pick (b || (ltb 0 n && ltb n 60)) (n + 1) 0)) 60
+    → unlessLit (min r 60) (lampNext (min n 60) b) ≡ min (cond (ltb 0 r) 0 (cond (b || (ltb 0 n && ltb n 60)) (n + 1) 0)) 60
 unfolding unlessLit
 amber-follows r n b = rw (lit-follows r 60 (lit≤ tt), lamp-follows n b) (go (ltb 0 r))
   where
-    go : (t : Bool) → pick t 0 (min (pick (b || (ltb 0 n && ltb n 60)) (n + 1) 0) 60) ≡ min (pick t 0 (pick (b || (ltb 0 n && ltb n 60)) (n + 1) 0)) 60
+    go : (t : Bool) → cond t 0 (min (cond (b || (ltb 0 n && ltb n 60)) (n + 1) 0) 60) ≡ min (cond t 0 (cond (b || (ltb 0 n && ltb n 60)) (n + 1) 0)) 60
     go true = refl
     go false = refl
 
-voice-follows : (n : ℕ) (b : Bool) → voiceNext (min n 73) b ≡ min (pick (eqb n 0) (pick b 1 0) (n + 1)) 73
+voice-follows : (n : ℕ) (b : Bool) → voiceNext (min n 73) b ≡ min (cond (eqb n 0) (cond b 1 0) (n + 1)) 73
 unfolding voiceNext
 voice-follows n b = go (stand n 73) b
   where
-    go : Stand n 73 → (b : Bool) → voiceNext (min n 73) b ≡ min (pick (eqb n 0) (pick b 1 0) (n + 1)) 73
+    go : Stand n 73 → (b : Bool) → voiceNext (min n 73) b ≡ min (cond (eqb n 0) (cond b 1 0) (n + 1)) 73
     go (none e) true = rw e
     go (none e) false = rw e
     go (short p h) b = rw (min-below n 73 (omega arith), not-zero n p, lt-ltb n 73 h) (sym (min-below (n + 1) 73 (omega arith)))
     go (full h) b = rw (min-at n 73 h, not-zero n (omega arith)) (sym (min-at (n + 1) 73 (omega arith)))
 
-kept-follows : (n : ℕ) (change : Bool) → keptOf (min n 73) change ≡ min (pick change 0 n) 73
+kept-follows : (n : ℕ) (change : Bool) → keptOf (min n 73) change ≡ min (cond change 0 n) 73
 unfolding keptOf
 kept-follows n true = refl
 kept-follows n false = refl
@@ -179,20 +179,20 @@ mode-follows s (last ∷ l) = refl
 -- ════ Guidance ════
 
 guide-follows : (g : Guidance) (s : Sample) (comes : Bool)
-    → guideNext (toGuide g) s comes ≡ toGuide (pick (same (s .deselect) (pos 1)) off (guided s comes g))
+    → guideNext (toGuide g) s comes ≡ toGuide (cond (same (s .deselect) (pos 1)) off (guided s comes g))
 unfolding guideNext noGuide startedOf continuedOf guided commandOf
 guide-follows g s comes = go (same (s .deselect) (pos 1)) g comes
   where
     later : (n m : ℕ) (c : ℤ) → m ≡ n
-        → pick (eqb m 600) noGuide (record { count = m + 1; command = c }) ≡ toGuide (pick (eqb n 600) off (on n c))
+        → cond (eqb m 600) noGuide (record { count = m + 1; command = c }) ≡ toGuide (cond (eqb n 600) off (on n c))
     later n m c e = rw e (end (eqb n 600))
       where
-        end : (t : Bool) → pick t noGuide (record { count = n + 1; command = c }) ≡ toGuide (pick t off (on n c))
+        end : (t : Bool) → cond t noGuide (record { count = n + 1; command = c }) ≡ toGuide (cond t off (on n c))
         end true = refl
         end false = refl
 
     go : (t : Bool) (g : Guidance) (comes : Bool)
-        → pick t noGuide (pick (eqb (countOf g) 0) (pick comes (startedOf s) noGuide) (continuedOf (toGuide g) s)) ≡ toGuide (pick t off (guided s comes g))
+        → cond t noGuide (cond (eqb (countOf g) 0) (cond comes (startedOf s) noGuide) (continuedOf (toGuide g) s)) ≡ toGuide (cond t off (guided s comes g))
     go true g comes = refl
     go false off true = refl
     go false off false = refl
@@ -200,12 +200,12 @@ guide-follows g s comes = go (same (s .deselect) (pos 1)) g comes
         rw (not-zero (n + 1) (omega arith))
         (later (counted s n) (counted s (n + 1 - 1)) (smaller (towards c) (cap s)) (ap (counted s) (omega arith)))
 
-shown-follows : (g : Guidance) → shownOf (countOf g) ≡ pick (isOn g) 1 0
+shown-follows : (g : Guidance) → shownOf (countOf g) ≡ cond (isOn g) 1 0
 unfolding shownOf isOn
 shown-follows off = refl
 shown-follows (on n c) = rw (not-zero (n + 1) (omega arith))
 
-alert-follows : (r n : ℕ) → alertOf (min r 60) (min n 60) ≡ pick (ltb 0 r) 2 (pick (ltb 0 n) 1 0)
+alert-follows : (r n : ℕ) → alertOf (min r 60) (min n 60) ≡ cond (ltb 0 r) 2 (cond (ltb 0 n) 1 0)
 unfolding alertOf
 alert-follows r n = rw (lit-follows r 60 (lit≤ tt), lit-follows n 60 (lit≤ tt))
 
@@ -251,7 +251,7 @@ module _ (s : Sample) (l : List Sample) where
   unfolding voiceFor redComesOn
   voice-next =
       rw (mode-follows s l, kept-follows (voiceFor redComesOn l) (modeChange s l), comes-follows (redFor (s ∷ l)))
-      (voice-follows (pick (modeChange s l) 0 (voiceFor redComesOn l)) (redComesOn (s ∷ l)))
+      (voice-follows (cond (modeChange s l) 0 (voiceFor redComesOn l)) (redComesOn (s ∷ l)))
 
   spoken : voiceOf (made (heldOf (s ∷ l)) (s .along) (lastMode l) (seenOf l) (min (redFor (s ∷ l)) 60) (min (amberFor (s ∷ l)) 60) (min (voiceFor redComesOn l) 73) (toGuide (guidance l))) s
       ≡ made (heldOf (s ∷ l)) (s .along) (s .mode) 1 (min (redFor (s ∷ l)) 60) (min (amberFor (s ∷ l)) 60) (min (voiceFor redComesOn (s ∷ l)) 73) (toGuide (guidance l))

@@ -1,6 +1,6 @@
 -- Bounds of the lamps' and the voice's counters and of escape guidance after a sample, which refusal 8 asks of a state; and the cap.
 use mathlib.Core.Path.{_≡_, refl}
-use mathlib.Core.Bool.{Bool, true, false}
+use mathlib.Core.Bool.{Bool, true, false, cond}
 use Prim.Native.Nat.{ℕ, _+_, _-_, _≤_, zero-le}
 use native.Mathlib.Nat.{le-refl}
 use native.Mathlib.Omega.{arith}
@@ -9,33 +9,33 @@ use lib.Dec.{ltb, eqb}
 use lib.IntN.{ℤ, pos, _-ℤ_}
 use lib.Signed.{ltZ, _≤ℤ_, leZ-yes}
 use Rattle.rounding.proofs.Difference.{any, nat, +D, leD, ofLe}
-use Rattle.unit.specs.Choice.{pick, neg, same, smaller}
+use Rattle.unit.specs.Choice.{neg, same, smaller}
 use Rattle.unit.specs.Rules.{cap, towards, climbing, counted}
 use Rattle.unit.specs.Steps.{lampNext, unlessLit, voiceNext, noGuide, startedOf, continuedOf, guideNext}
 use Rattle.unit.specs.declared.Sample.{Sample}
 use Rattle.unit.specs.declared.pitch.Guide.{Guide}
-use Rattle.unit.proofs.Choices.{pick-has, ≤ℤ-trans, smaller-le-left, smaller-le-right, smaller-ge, larger-ge-left}
+use Rattle.unit.proofs.Choices.{cond-has, ≤ℤ-trans, smaller-le-left, smaller-le-right, smaller-ge, larger-ge-left}
 
 -- ════ Lamps and voice ════
 
-pick-le : (t : Bool) {a b : ℕ} (m : ℕ) → (t ≡ true → a ≤ m) → (t ≡ false → b ≤ m) → pick t a b ≤ m
-pick-le t m = pick-has (λ (n : ℕ). n ≤ m) t
+cond-le : (t : Bool) {a b : ℕ} (m : ℕ) → (t ≡ true → a ≤ m) → (t ≡ false → b ≤ m) → cond t a b ≤ m
+cond-le t m = cond-has (λ (n : ℕ). n ≤ m) t
 
 pub lamp-le : (n : ℕ) (on : Bool) → lampNext n on ≤ 60
 unfolding lampNext
 lamp-le n on =
-    pick-le (eqb n 0) 60 (λ e. pick-le on 60 (λ k. omega arith) (λ k. zero-le))
-    (λ e. pick-le (ltb n 60) 60 (λ k. omega (arith, ltb-true n 60 k)) (λ k. pick-le on 60 (λ j. le-refl 60) (λ j. zero-le)))
+    cond-le (eqb n 0) 60 (λ e. cond-le on 60 (λ k. omega arith) (λ k. zero-le))
+    (λ e. cond-le (ltb n 60) 60 (λ k. omega (arith, ltb-true n 60 k)) (λ k. cond-le on 60 (λ j. le-refl 60) (λ j. zero-le)))
 
 pub unless-le : (red amber : ℕ) → unlessLit red amber ≤ amber
 unfolding unlessLit
-unless-le red amber = pick-le (ltb 0 red) amber (λ e. zero-le) (λ e. le-refl amber)
+unless-le red amber = cond-le (ltb 0 red) amber (λ e. zero-le) (λ e. le-refl amber)
 
 pub voice-le : (n : ℕ) (comes : Bool) → voiceNext n comes ≤ 73
 unfolding voiceNext
 voice-le n comes =
-    pick-le (eqb n 0) 73 (λ e. pick-le comes 73 (λ k. omega arith) (λ k. zero-le))
-    (λ e. pick-le (ltb n 73) 73 (λ k. omega (arith, ltb-true n 73 k)) (λ k. le-refl 73))
+    cond-le (eqb n 0) 73 (λ e. cond-le comes 73 (λ k. omega arith) (λ k. zero-le))
+    (λ e. cond-le (ltb n 73) 73 (λ k. omega (arith, ltb-true n 73 k)) (λ k. le-refl 73))
 
 -- ════ Escape pitch ════
 
@@ -45,7 +45,7 @@ guide-is e f = rw (e, f)
 
 pub counted-le : (s : Sample) (n : ℕ) → counted s n ≤ n + 1
 unfolding counted
-counted-le s n = pick-le (climbing s) (n + 1) (λ e. le-refl (n + 1)) (λ e. zero-le)
+counted-le s n = cond-le (climbing s) (n + 1) (λ e. le-refl (n + 1)) (λ e. zero-le)
 
 -- after a sample guidance is off, or has started, or goes on with a count that has not reached 600
 next-has : (P : Guide → Type 0) (g : Guide) (s : Sample) (comes : Bool) → P noGuide → P (startedOf s)
@@ -53,10 +53,10 @@ next-has : (P : Guide → Type 0) (g : Guide) (s : Sample) (comes : Bool) → P 
     → P (guideNext g s comes)
 unfolding guideNext continuedOf
 next-has P g s comes none start more =
-    pick-has P (same (s .deselect) (pos 1)) (λ e. none)
+    cond-has P (same (s .deselect) (pos 1)) (λ e. none)
     (λ e.
-    pick-has P (eqb (g .count) 0) (λ f. pick-has P comes (λ k. start) (λ k. none))
-    (λ f. pick-has P (eqb (counted s (g .count - 1)) 600) (λ k. none) (λ k. more (eqb-false _ _ k))))
+    cond-has P (eqb (g .count) 0) (λ f. cond-has P comes (λ k. start) (λ k. none))
+    (λ f. cond-has P (eqb (counted s (g .count - 1)) 600) (λ k. none) (λ k. more (eqb-false _ _ k))))
 
 pub count-le : (g : Guide) (s : Sample) (comes : Bool) → g .count ≤ 600 → guideNext g s comes .count ≤ 600
 unfolding noGuide startedOf
@@ -66,7 +66,7 @@ count-le g s comes h =
 towards-ge : (c : ℤ) → neg 30000 ≤ℤ c → neg 30000 ≤ℤ towards c
 unfolding towards
 towards-ge c h =
-    pick-has (λ (x : ℤ). neg 30000 ≤ℤ x) (ltZ c (pos 15000))
+    cond-has (λ (x : ℤ). neg 30000 ≤ℤ x) (ltZ c (pos 15000))
     (λ e. smaller-ge (leZ-yes tt) (leD (any (neg 30000)) (+D (any c) (nat 75)) (omega (arith, ofLe h (any (neg 30000)) (any c)))))
     (λ e. ≤ℤ-trans (leZ-yes tt) (larger-ge-left (pos 15000) (c -ℤ pos 75)))
 

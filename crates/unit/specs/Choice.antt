@@ -1,13 +1,9 @@
 -- Choices and comparisons that the rules are written with.
-use mathlib.Core.Bool.{Bool, true, false, _&&_, _||_}
+use mathlib.Core.Bool.{Bool, true, false, _&&_, _||_, cond}
 use mathlib.Core.List.{List, [], _∷_}
 use Prim.Native.Nat.{ℕ}
 use lib.IntN.{ℤ, pos, negℤ}
 use lib.Signed.{leZ, ltZ}
-
-abbrev pub pick {ℓ} : {A : Type ℓ} → Bool → A → A → A
-pick true a b = a
-pick false a b = b
 
 -- the negative number of a size
 abbrev pub neg : ℕ → ℤ
@@ -21,10 +17,10 @@ unfoldable pub same : ℤ → ℤ → Bool
 same a b = leZ a b && leZ b a
 
 unfoldable pub smaller : ℤ → ℤ → ℤ
-smaller a b = pick (ltZ a b) a b
+smaller a b = cond (ltZ a b) a b
 
 unfoldable pub larger : ℤ → ℤ → ℤ
-larger a b = pick (ltZ a b) b a
+larger a b = cond (ltZ a b) b a
 
 -- whether some element of a list passes a test
 unfoldable pub anyOf {ℓ} : {A : Type ℓ} → (A → Bool) → List A → Bool

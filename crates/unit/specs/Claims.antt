@@ -1,6 +1,6 @@
 -- The claims over every list of samples offered in the plain form, each a definition that is proved in proofs/Claims.antt.
 -- A list has the newest sample first. 01: "The list in demand 3" and the last lines of "Refusal numbers".
-use mathlib.Core.Bool.{Bool, true, false}
+use mathlib.Core.Bool.{Bool, true, false, cond}
 use mathlib.Core.List.{List, [], _∷_, _++_, List·Memᴰ}
 use mathlib.Core.Logic.{_⊎_}
 use mathlib.Core.Path.{_≡_}
@@ -9,7 +9,6 @@ use lib.Dec.{eqb}
 use lib.IntN.{ℤ, pos}
 use lib.Signed.{_≤ℤ_}
 use Rattle.rounding.specs.Fraction.{Fraction, _over_, _+F_, _≤F_, _<F_}
-use Rattle.unit.specs.Choice.{pick}
 use Rattle.unit.specs.Rules.{refusal, held, exact, entries, Window, windows, inBand, average, redLit, amberLit, voice, guidance, isOn, commandOf}
 use Rattle.unit.specs.Steps.{freshState, passes, refusedOf, refusalOf, offerOf}
 use Rattle.unit.specs.declared.Answer.{Answer}
@@ -29,7 +28,7 @@ answerTo s before = offerOf (stateAfter before) s .answer
 -- "Accepted are exactly the samples that no refusal number fits; 8 never comes here."
 unfoldable pub accepted : List Sample → List Sample
 accepted [] = []
-accepted (s ∷ before) = pick (eqb (refusal s) 0) (s ∷ accepted before) (accepted before)
+accepted (s ∷ before) = cond (eqb (refusal s) 0) (s ∷ accepted before) (accepted before)
 
 -- ════ Claims on states and answers ════
 
@@ -47,16 +46,16 @@ shows s before =
     let now = s ∷ before in
     record {
       refusal = 0;
-      alert = pick (redLit now) 2 (pick (amberLit now) 1 0);
+      alert = cond (redLit now) 2 (cond (amberLit now) 1 0);
       voice = voice now;
-      guidance = pick (isOn (guidance now)) 1 0;
+      guidance = cond (isOn (guidance now)) 1 0;
       command = commandOf (guidance now);
       shear = held s before;
     }
 
 -- at each sample: the answer by the rules over the accepted samples alone; or the first number that fits it
 unfoldable pub AnswersByRules : Type 0
-AnswersByRules = (s : Sample) (before : List Sample) → answerTo s before ≡ pick (eqb (refusal s) 0) (shows s (accepted before)) (refusedOf (refusal s))
+AnswersByRules = (s : Sample) (before : List Sample) → answerTo s before ≡ cond (eqb (refusal s) 0) (shows s (accepted before)) (refusedOf (refusal s))
 
 -- "A refused sample is as if never offered": whatever is offered before and after it, the next answer and state are those without it
 unfoldable pub RefusedIsNothing : Type 0
@@ -87,7 +86,7 @@ Below l w = (averageOf w l +F tolerance) <F tableValue w
 -- the alert that the last accepted sample's answer showed; 0 where there was none
 unfoldable pub lastAlert : List Sample → ℕ
 lastAlert [] = 0
-lastAlert (s ∷ before) = pick (eqb (refusal s) 0) (answerTo s before .alert) (lastAlert before)
+lastAlert (s ∷ before) = cond (eqb (refusal s) 0) (answerTo s before .alert) (lastAlert before)
 
 -- What demand 3 asks at one accepted sample s, with the accepted samples before it: whether red was lit at the one before (false where there was
 -- none) and is lit at this one, whether the command is shown, and the command. It says nothing of counters or arrays: averages come from the list.

@@ -1,7 +1,7 @@
 -- Paper 01 as rules over the list of accepted samples alone, the newest first: no state, no counter that stops, no array.
 -- `before` is the list of the accepted samples before the one at hand. The sections stand in the paper's order; refusals 11 to 20 and the exact
 -- average stand with what they speak of.
-use mathlib.Core.Bool.{Bool, true, false, not, _&&_, _||_}
+use mathlib.Core.Bool.{Bool, true, false, not, _&&_, _||_, cond}
 use mathlib.Core.List.{List, [], _∷_, _++_}
 use Prim.Native.Nat.{ℕ, _+_, _*_, _/_}
 use lib.Dec.{ltb, leb, eqb}
@@ -9,7 +9,7 @@ use lib.IntN.{ℤ, pos, negℤ, natAbs, _+ℤ_, _-ℤ_, _*ℤ_}
 use lib.ListN.{take, replicate}
 use lib.Signed.{leZ, ltZ}
 use Rattle.rounding.specs.Fraction.{Fraction, _over_, _-F_, zeroF, sumF, timesF, divideF, roundF, sumℤ}
-use Rattle.unit.specs.Choice.{pick, neg, within, same, smaller, larger, anyOf}
+use Rattle.unit.specs.Choice.{neg, within, same, smaller, larger, anyOf}
 use Rattle.unit.specs.declared.Sample.{Sample}
 
 -- ════ A sample ════
@@ -32,7 +32,7 @@ inRange s =
 -- "Refusal numbers", 11 to 20: the number of the first field that is not accepted, the first field's being n; 0 where all are
 unfoldable pub firstBad : ℕ → List Bool → ℕ
 firstBad n [] = 0
-firstBad n (ok ∷ rest) = pick ok (firstBad (n + 1) rest) n
+firstBad n (ok ∷ rest) = cond ok (firstBad (n + 1) rest) n
 
 unfoldable pub refusal : Sample → ℕ
 refusal s = firstBad 11 (inRange s)
@@ -120,7 +120,7 @@ unfoldable pub litFor : (holds dark : List Sample → Bool) → List Sample → 
 litFor holds dark [] = 0
 litFor holds dark (s ∷ before) =
     let n = litFor holds dark before in
-    pick (dark (s ∷ before)) 0 (pick (holds (s ∷ before) || (ltb 0 n && ltb n 60)) (n + 1) 0)
+    cond (dark (s ∷ before)) 0 (cond (holds (s ∷ before) || (ltb 0 n && ltb n 60)) (n + 1) 0)
 
 unfoldable pub redFor : List Sample → ℕ
 redFor = litFor redCondition (λ l. false)
@@ -152,12 +152,12 @@ modeChange s (last ∷ _) = not (same (s .mode) (last .mode))
 unfoldable pub voiceFor : (comes : List Sample → Bool) → List Sample → ℕ
 voiceFor comes [] = 0
 voiceFor comes (s ∷ before) =
-    let n = pick (modeChange s before) 0 (voiceFor comes before) in
-    pick (eqb n 0) (pick (comes (s ∷ before)) 1 0) (n + 1)
+    let n = cond (modeChange s before) 0 (voiceFor comes before) in
+    cond (eqb n 0) (cond (comes (s ∷ before)) 1 0) (n + 1)
 
 -- "three cycles of 24 samples .., counted 1, 2, 3 from that sample; else 0"
 unfoldable pub cycle : ℕ → ℕ
-cycle n = pick (leb n 72) ((n + 23) / 24) 0
+cycle n = cond (leb n 72) ((n + 23) / 24) 0
 
 unfoldable pub voice : List Sample → ℕ
 voice l = cycle (voiceFor redComesOn l)
@@ -170,7 +170,7 @@ cap s = smaller (pos 27000) (s .stall)
 
 -- "towards 15,000 by at most 75"
 unfoldable pub towards : ℤ → ℤ
-towards c = pick (ltZ c (pos 15000)) (smaller (pos 15000) (c +ℤ pos 75)) (larger (pos 15000) (c -ℤ pos 75))
+towards c = cond (ltZ c (pos 15000)) (smaller (pos 15000) (c +ℤ pos 75)) (larger (pos 15000) (c -ℤ pos 75))
 
 -- "climb above 0 and true airspeed × 10 above Vs1 × 13"
 unfoldable pub climbing : Sample → Bool
@@ -182,21 +182,21 @@ pub data Guidance : Type 0 where
   on : ℕ → ℤ → Guidance
 
 unfoldable pub counted : Sample → ℕ → ℕ
-counted s n = pick (climbing s) (n + 1) 0
+counted s n = cond (climbing s) (n + 1) 0
 
 -- from the guidance at the sample before. "Guidance starts at the sample where red comes on, with the pitch of that sample or the cap if
 -- smaller"; "at each later sample the command moves .., then is cut to the cap"; it ends "at the 600th sample in a row, the starting one
 -- being the first that can count"; "an end beats a coming-on"; "a coming-on while guidance runs changes nothing in it"
 unfoldable pub guided : Sample → Bool → Guidance → Guidance
-guided s comes off = pick comes (on (counted s 0) (smaller (s .pitch) (cap s))) off
+guided s comes off = cond comes (on (counted s 0) (smaller (s .pitch) (cap s))) off
 guided s comes (on n command) =
-    pick (eqb (counted s n) 600) off (on (counted s n) (smaller (towards command) (cap s)))
+    cond (eqb (counted s n) 600) off (on (counted s n) (smaller (towards command) (cap s)))
 
 -- "Guidance ends at a sample with deselect, which beats a start"
 unfoldable pub guidanceBy : (comes : List Sample → Bool) → List Sample → Guidance
 guidanceBy comes [] = off
 guidanceBy comes (s ∷ before) =
-    pick (same (s .deselect) (pos 1)) off (guided s (comes (s ∷ before)) (guidanceBy comes before))
+    cond (same (s .deselect) (pos 1)) off (guided s (comes (s ∷ before)) (guidanceBy comes before))
 
 unfoldable pub guidance : List Sample → Guidance
 guidance = guidanceBy redComesOn

@@ -1,6 +1,6 @@
 -- What one method does to one state: what the clauses of src/ cite. The counters stop where they no longer matter; that this is harmless is
 -- shown by the claims, which say the answers by the rules alone.
-use mathlib.Core.Bool.{Bool, true, false, not, _&&_, _||_}
+use mathlib.Core.Bool.{Bool, true, false, not, _&&_, _||_, cond}
 use mathlib.Core.List.{List, [], _∷_}
 use mathlib.Core.Path.{_≡_}
 use Prim.Native.Nat.{ℕ, _+_, _-_, _≤_}
@@ -8,7 +8,7 @@ use lib.Dec.{ltb, leb, eqb}
 use lib.IntN.{ℤ, pos, negℤ, natAbs, _-ℤ_}
 use lib.ListN.{getD, take, replicate}
 use lib.Signed.{leZ, _≤ℤ_}
-use Rattle.unit.specs.Choice.{pick, neg, within, same, smaller, anyOf, every}
+use Rattle.unit.specs.Choice.{neg, within, same, smaller, anyOf, every}
 use Rattle.unit.specs.Rules.{refusal, heldShear, windowSum, metUp, metDown, windows, cycle, cap, towards, counted}
 use Rattle.unit.specs.declared.Answer.{Answer}
 use Rattle.unit.specs.declared.Core.{Core}
@@ -45,15 +45,15 @@ sumsOf held =
 
 unfoldable pub metOf : Bool → Sums → Bool
 metOf up s =
-    leZ (pos 2100000) (pick up (s .s200) (negℤ (s .s200)))
-    || (leZ (pos 2098800) (pick up (s .s180) (negℤ (s .s180)))
-    || (leZ (pos 2097600) (pick up (s .s160) (negℤ (s .s160)))
-    || (leZ (pos 2098600) (pick up (s .s140) (negℤ (s .s140)))
-    || (leZ (pos 2097600) (pick up (s .s120) (negℤ (s .s120)))
-    || (leZ (pos 2100000) (pick up (s .s100) (negℤ (s .s100))) || false)))))
+    leZ (pos 2100000) (cond up (s .s200) (negℤ (s .s200)))
+    || (leZ (pos 2098800) (cond up (s .s180) (negℤ (s .s180)))
+    || (leZ (pos 2097600) (cond up (s .s160) (negℤ (s .s160)))
+    || (leZ (pos 2098600) (cond up (s .s140) (negℤ (s .s140)))
+    || (leZ (pos 2097600) (cond up (s .s120) (negℤ (s .s120)))
+    || (leZ (pos 2100000) (cond up (s .s100) (negℤ (s .s100))) || false)))))
 
 unfoldable pub shearOf : State → Sample → ℤ
-shearOf t s = heldShear (pick (ltb 0 (t .core .seen)) (s .along -ℤ t .core .along) (pos 0)) (s .vertical) (s .airspeed)
+shearOf t s = heldShear (cond (ltb 0 (t .core .seen)) (s .along -ℤ t .core .along) (pos 0)) (s .vertical) (s .airspeed)
 
 unfoldable pub windowsOf : State → Sample → ℤ → State
 windowsOf t s x =
@@ -67,10 +67,10 @@ windowsOf t s x =
 
 -- a lamp's counter, which stops at 60
 unfoldable pub lampNext : ℕ → Bool → ℕ
-lampNext n on = pick (eqb n 0) (pick on 1 0) (pick (ltb n 60) (n + 1) (pick on 60 0))
+lampNext n on = cond (eqb n 0) (cond on 1 0) (cond (ltb n 60) (n + 1) (cond on 60 0))
 
 unfoldable pub unlessLit : ℕ → ℕ → ℕ
-unlessLit red amber = pick (ltb 0 red) 0 amber
+unlessLit red amber = cond (ltb 0 red) 0 amber
 
 unfoldable pub lampsOf : State → ℤ → State
 lampsOf t height =
@@ -85,14 +85,14 @@ lampsOf t height =
 -- ════ Voice ════
 
 unfoldable pub changedOf : ℕ → ℤ → ℤ → Bool
-changedOf seen last mode = pick (eqb seen 0) false (not (same mode last))
+changedOf seen last mode = cond (eqb seen 0) false (not (same mode last))
 
 unfoldable pub keptOf : ℕ → Bool → ℕ
-keptOf n change = pick change 0 n
+keptOf n change = cond change 0 n
 
 -- the voice's counter, which stops at 73
 unfoldable pub voiceNext : ℕ → Bool → ℕ
-voiceNext n comes = pick (eqb n 0) (pick comes 1 0) (pick (ltb n 73) (n + 1) 73)
+voiceNext n comes = cond (eqb n 0) (cond comes 1 0) (cond (ltb n 73) (n + 1) 73)
 
 -- a lamp that comes on has its counter at 1
 unfoldable pub voiceOf : State → Sample → State
@@ -115,12 +115,12 @@ startedOf s = record { count = counted s 0 + 1; command = smaller (s .pitch) (ca
 unfoldable pub continuedOf : Guide → Sample → Guide
 continuedOf g s =
     let n = counted s (g .count - 1) in
-    pick (eqb n 600) noGuide (record { count = n + 1; command = smaller (towards (g .command)) (cap s) })
+    cond (eqb n 600) noGuide (record { count = n + 1; command = smaller (towards (g .command)) (cap s) })
 
 unfoldable pub guideNext : Guide → Sample → Bool → Guide
 guideNext g s comes =
-    pick (same (s .deselect) (pos 1)) noGuide
-    (pick (eqb (g .count) 0) (pick comes (startedOf s) noGuide) (continuedOf g s))
+    cond (same (s .deselect) (pos 1)) noGuide
+    (cond (eqb (g .count) 0) (cond comes (startedOf s) noGuide) (continuedOf g s))
 
 unfoldable pub guideOf : Core → Guide
 guideOf c = record { count = c .guidance; command = c .command }
@@ -137,10 +137,10 @@ pitchOf t s =
 -- ════ The answer and the step ════
 
 unfoldable pub alertOf : ℕ → ℕ → ℕ
-alertOf red amber = pick (ltb 0 red) 2 (pick (ltb 0 amber) 1 0)
+alertOf red amber = cond (ltb 0 red) 2 (cond (ltb 0 amber) 1 0)
 
 unfoldable pub shownOf : ℕ → ℕ
-shownOf count = pick (eqb count 0) 0 1
+shownOf count = cond (eqb count 0) 0 1
 
 unfoldable pub answerOf : State → ℤ → Answer
 answerOf t x =
@@ -175,11 +175,11 @@ passes t = heldFits (t .held) && countersFit (t .core) && lastFits (t .core)
 
 -- "A lone sample meets 8, then 11 to 20."
 unfoldable pub refusalOf : State → Sample → ℕ
-refusalOf t s = pick (passes t) (refusal s) 8
+refusalOf t s = cond (passes t) (refusal s) 8
 
 -- "A refused sample is as if never offered."
 unfoldable pub offerOf : State → Sample → Offered
-offerOf t s = pick (eqb (refusalOf t s) 0) (acceptOf t s) (record { answer = refusedOf (refusalOf t s); state = t })
+offerOf t s = cond (eqb (refusalOf t s) 0) (acceptOf t s) (record { answer = refusedOf (refusalOf t s); state = t })
 
 -- ════ What the private functions ask ════
 

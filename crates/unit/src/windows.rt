@@ -1,11 +1,10 @@
 // The windows over the last two hundred held shears, the newest first (01, "The six windows").
 ghost use mathlib.Core.Path.{_≡_};
-ghost use mathlib.Core.Bool.{_||_};
+ghost use mathlib.Core.Bool.{_||_, cond};
 ghost use Prim.Native.Nat.{_≤_};
 ghost use lib.IntN.{negℤ, natAbs};
 ghost use lib.Signed.{leZ};
 ghost use Rattle.unit.specs.Rules.{windowSum};
-ghost use Rattle.unit.specs.Choice.{pick};
 ghost use Rattle.unit.specs.Steps.{pushed, HeldWithin, sumsOf, metOf};
 
 // The sums of the six windows, the longest first.
@@ -63,7 +62,7 @@ pub(crate) fn all_sums(held: [i32; 200]) -> Sums
 // Whether a sum, or its opposite, reaches a limit, or another did.
 fn reaches(sum: i64, limit: i64, up: bool, other: bool) -> bool
     requires { ⌜ natAbs limit ≤ 10000000 ⌝ }
-    ensures { λ r. ⌜ r ≡ (leZ limit (pick up sum (negℤ sum)) || other) ⌝ }
+    ensures { λ r. ⌜ r ≡ (leZ limit (cond up sum (negℤ sum)) || other) ⌝ }
 {
     if up {
         if limit <= sum {

@@ -1,11 +1,10 @@
 -- `unit::State::offer` meets its contract: 8 is tested, then the sample; what passes both is accepted.
-use mathlib.Core.Bool.{Bool, true, false}
+use mathlib.Core.Bool.{Bool, true, false, cond}
 use mathlib.Core.Path.{_≡_, refl, sym, _∙_}
 use Prim.Native.Nat.{ℕ, suc}
 use native.Mathlib.Omega.{arith}
 use borrow.Author.Needs.{needs}
 use borrow.Author.Tests.{eq-eqb, ne-eqb}
-use Rattle.unit.specs.Choice.{pick}
 use Rattle.unit.specs.Rules.{refusal}
 use Rattle.unit.specs.Steps.{passes, refusedOf, refusalOf, offerOf}
 use Rattle.unit.proofs.RangeLaws.{no-number, in-range, valid}
@@ -26,7 +25,7 @@ unfolding refusalOf
 number c = c .first-of .ensures ∙ rw (c .before .refusal .ensures, c .before .before .passes .ensures)
 
 fits : (c : tie.After-first-of) → c .first-of .result ≡ 0
-    → pick (passes (c .before .before .before .args .self)) (refusal (c .before .before .before .args .s)) 8 ≡ 0
+    → cond (passes (c .before .before .before .args .self)) (refusal (c .before .before .before .args .s)) 8 ≡ 0
 unfolding refusalOf
 fits c e = sym (number c) ∙ e
 

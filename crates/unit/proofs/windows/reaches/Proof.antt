@@ -1,6 +1,6 @@
 -- `unit::windows::reaches` meets its contract: downward, the code turns the limit and not the sum.
 use mathlib.Core.Path.{_≡_}
-use mathlib.Core.Bool.{Bool, true, false, _||_}
+use mathlib.Core.Bool.{Bool, true, false, _||_, cond}
 use lib.Dec.{lit<}
 use lib.IntN.{ℤ, pos, negℤ, _-ℤ_}
 use lib.Signed.{leZ}
@@ -8,7 +8,6 @@ use mir.Syntax.{w64}
 use mir.Val.{toZ, ofZ}
 use mir.Facts.{toZ-ofZ}
 use Rattle.rounding.proofs.Fits.{Holds, lit, exact, kept, minus, sfits}
-use Rattle.unit.specs.Choice.{pick}
 use Rattle.unit.proofs.WindowLaws.{le-turn}
 use Rattle.unit.proofs.windows.reaches.Statement.{statement}
 use Rattle.unit.proofs.windows.reaches.Tie as tie
@@ -17,7 +16,7 @@ abbrev back : ℤ → ℤ
 back x = toZ w64 (ofZ w64 x)
 
 abbrev Answers : tie.Start → Bool → Type 0
-Answers k r = r ≡ (leZ (k .args .limit) (pick (k .args .up) (k .args .sum) (negℤ (k .args .sum))) || k .args .other)
+Answers k r = r ≡ (leZ (k .args .limit) (cond (k .args .up) (k .args .sum) (negℤ (k .args .sum))) || k .args .other)
 
 -- the answer by what its last test said, upward and downward
 upward : (k : tie.Start) {b : Bool} → k .args .up ≡ true → leZ (back (k .args .limit)) (back (k .args .sum)) ≡ b → Answers k (b || k .args .other)

@@ -1,6 +1,6 @@
 -- `unit::windows::Sums::met` meets its contract: the six calls are its six tests, from the last.
 use mathlib.Core.Path.{_≡_}
-use mathlib.Core.Bool.{Bool, false, _||_}
+use mathlib.Core.Bool.{Bool, false, _||_, cond}
 use Prim.Native.Nat.{ℕ}
 use borrow.Author.Needs.{needs}
 use lib.IntN.{ℤ, pos, negℤ}
@@ -8,7 +8,6 @@ use lib.Signed.{leZ}
 use mir.Syntax.{w64}
 use mir.Val.{SFits, toZ, ofZ}
 use mir.Facts.{toZ-ofZ}
-use Rattle.unit.specs.Choice.{pick}
 use Rattle.unit.specs.Steps.{metOf}
 use Rattle.unit.specs.declared.windows.Sums.{Sums}
 use Rattle.unit.proofs.windows.Sums.met.Statement.{statement}
@@ -16,7 +15,7 @@ use Rattle.unit.proofs.windows.Sums.met.Tie as tie
 
 -- a test of a sum as it is read back
 abbrev test : ℕ → Bool → ℤ → Bool
-test n up x = let back = toZ w64 (ofZ w64 x) in leZ (pos n) (pick up back (negℤ back))
+test n up x = let back = toZ w64 (ofZ w64 x) in leZ (pos n) (cond up back (negℤ back))
 
 -- a sum of 64 bits is read back as it is
 abbrev Fit : Sums → Type 0

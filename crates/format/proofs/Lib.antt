@@ -1,0 +1,10 @@
+pub mod Digits
+pub mod Signed16
+pub mod Patterns
+pub mod RoundTrip
+pub mod Headers
+pub mod Cut
+pub mod Fields
+pub mod Starred
+pub mod RecordLaws
+pub mod RecordClaims

@@ -1,0 +1,6 @@
+pub mod Float
+pub mod Record
+pub mod Header
+pub mod Refusal
+pub mod Claims
+pub mod Starred

@@ -1,0 +1,22 @@
+// The run file's format: floats as hundredths, the header and the records read and written (01, "The run file").
+pub mod float;
+pub mod header;
+pub mod lent;
+pub mod raw;
+pub mod records;
+pub mod words;
+
+// A record's ten fields as the file has them: the three speeds in knots as they stand there, bit for bit.
+#[repr(C)]
+pub struct Record {
+    pub along: f32,
+    pub vertical: f32,
+    pub airspeed: f32,
+    pub height: i16,
+    pub pitch: i16,
+    pub stall: i16,
+    pub climb: i16,
+    pub vs1: u16,
+    pub mode: u8,
+    pub deselect: u8,
+}
