@@ -3,4 +3,6 @@
 pub mod examples;
 pub mod files;
 pub mod gen;
+pub mod lend;
+pub mod library;
 pub mod reference;

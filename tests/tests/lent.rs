@@ -2,10 +2,7 @@
 
 use windshear::{Sample, State};
 use windshear_tests::gen::{all_lists, Rng};
-
-fn sent(s: &windshear_tests::reference::Sample) -> Sample {
-    Sample::from(s.fields())
-}
+use windshear_tests::library::sent;
 
 fn bytes(state: &State) -> Vec<u8> {
     let fields = |s: &State| {

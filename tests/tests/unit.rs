@@ -1,27 +1,9 @@
 //! The proved unit in the plain form beside the reference: every answer and every state after each sample.
 
-use windshear::{Answer, Core, Sample, State};
+use windshear::{Core, Sample, State};
 use windshear_tests::gen::all_lists;
-use windshear_tests::reference::{self, Unit};
-
-fn sent(s: &reference::Sample) -> Sample {
-    Sample::from(s.fields())
-}
-
-/// The answer that the reference's answer stands for.
-fn expected(answer: &Result<reference::Answer, u8>) -> Answer {
-    match *answer {
-        Ok(a) => Answer {
-            refusal: 0,
-            alert: a.alert.into(),
-            voice: a.voice.into(),
-            guidance: a.guidance.into(),
-            command: a.command,
-            shear: a.shear,
-        },
-        Err(n) => Answer { refusal: n.into(), alert: 0, voice: 0, guidance: 0, command: 0, shear: 0 },
-    }
-}
+use windshear_tests::library::{expected, sent};
+use windshear_tests::reference::Unit;
 
 /// The state that the reference's unit stands for, each counter up to where it stops.
 fn state_of(unit: &Unit) -> State {
