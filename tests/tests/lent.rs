@@ -52,4 +52,5 @@ fn forged_states_are_left_alone() {
     let before = bytes(&state);
     assert_eq!(state.offer_lent(Sample::default()).refusal, 8);
     assert_eq!(bytes(&state), before);
+    println!("compared 2 answers and states of a forged state");
 }
