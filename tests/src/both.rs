@@ -2,11 +2,11 @@
 
 use crate::gen::CALM;
 use crate::lend::lend;
-use crate::library::{expected, refused, sent};
+use crate::library::{cut, expected, refused, sent, sent_record, state_of};
 use crate::program::listed;
 use crate::reference::{self, Answer, Record, Sample, Unit};
 use std::cell::Cell;
-use windshear::{Core, State};
+use windshear::State;
 
 /// Makes the calls, and counts the answers, states and buffers that it compared.
 #[derive(Default)]
@@ -23,14 +23,17 @@ impl Both {
         self.compared.set(self.compared.get() + more);
     }
 
-    /// Prints the line of a test, and gives its number.
-    pub fn done(&self) -> u64 {
-        let compared = self.compared.get();
+    pub fn compared(&self) -> u64 {
+        self.compared.get()
+    }
+
+    /// Prints the line of a test.
+    pub fn done(&self) {
+        let compared = self.compared();
         assert!(compared > 0);
         println!(
             "compared {compared} answers, states and buffers of the reference and the library"
         );
-        compared
     }
 
     /// Two units that have seen no sample; failures name the list that they are to be told.
@@ -109,7 +112,8 @@ impl Both {
             .as_ref()
             .map_err(|&(number, place)| refused(number, place as usize));
         lend(len, |answers| windshear::run(file, answers), outcome);
-        self.count(2);
+        // the outcome, and each answer of ten bytes or all that was left as it was
+        self.count(1 + want.as_ref().map_or(1, |bytes| bytes.len() as u64 / 10));
         want
     }
 
@@ -147,43 +151,4 @@ impl Pair<'_> {
         self.offered += 1;
         answer
     }
-}
-
-/// The state that the reference's unit stands for, each counter up to where it stops.
-pub fn state_of(unit: &Unit) -> State {
-    let stop = |n: u64, at: u64| n.min(at) as u16;
-    State {
-        held: unit.last_held(200).try_into().unwrap(),
-        core: Core {
-            along: unit.last_along().unwrap_or(0),
-            mode: unit.last_mode().unwrap_or(0),
-            command: unit.command(),
-            seen: unit.last_along().is_some().into(),
-            red: stop(unit.red_lit_for(), 60),
-            amber: stop(unit.amber_lit_for(), 60),
-            voice: stop(unit.voice_since(), 73),
-            guidance: unit.guidance_counted().map_or(0, |n| n as u16 + 1),
-        },
-    }
-}
-
-/// The record with its floats by their bits.
-fn sent_record(r: &Record) -> windshear::Record {
-    windshear::Record {
-        along: f32::from_bits(r.along),
-        vertical: f32::from_bits(r.vertical),
-        airspeed: f32::from_bits(r.airspeed),
-        height: r.height,
-        pitch: r.pitch,
-        stall: r.stall,
-        climb: r.climb,
-        vs1: r.vs1,
-        mode: r.mode,
-        deselect: r.deselect,
-    }
-}
-
-/// As the library cuts hundredths, at a million either way.
-pub fn cut(hundredths: i128) -> i32 {
-    hundredths.clamp(-1_000_000, 1_000_000) as i32
 }

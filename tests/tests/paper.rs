@@ -1,7 +1,8 @@
 //! Every worked figure of the scope paper, held against the reference and the library; quoted names are its sections.
 
-use windshear_tests::both::{cut, Both};
+use windshear_tests::both::Both;
 use windshear_tests::gen::*;
+use windshear_tests::library::cut;
 use windshear_tests::reference::{self, read_record, Answer, Record, Sample, RANGES, WINDOWS};
 
 /// The samples with this alert.

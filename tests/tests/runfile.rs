@@ -3,112 +3,83 @@
 use std::collections::BTreeMap;
 use std::ops::RangeInclusive;
 use windshear::Outcome;
+use windshear_tests::both::Both;
 use windshear_tests::examples::examples;
 use windshear_tests::files::*;
 use windshear_tests::gen::*;
-use windshear_tests::lend::lend;
-use windshear_tests::library::refused;
+use windshear_tests::library::{cut, refused};
 use windshear_tests::reference::{self, read_record, Record, RANGES};
-
-/// As the library cuts hundredths, at a million either way.
-fn cut(hundredths: i128) -> i32 {
-    hundredths.clamp(-1_000_000, 1_000_000) as i32
-}
-
-/// A pattern's hundredths, the same on both sides.
-fn convert(bits: u32) -> Option<i32> {
-    let found = windshear::hundredths(bits);
-    assert_eq!(found, reference::hundredths(bits).map(cut), "{bits:#010x}");
-    found
-}
 
 /// All signs and exponents.
 #[test]
 fn hundredths_of_every_sign_and_exponent() {
-    let (mut compared, mut missing) = (0u64, 0u64);
-    for bits in float_patterns(&mut Rng::new(50)) {
-        missing += u64::from(convert(bits).is_none());
-        compared += 1;
-    }
-    println!("compared {compared} patterns' hundredths, {missing} not finite");
-    assert!(compared > 8_000_000 && missing == 2 * 8_072);
+    let (mut rng, both) = (Rng::new(50), Both::new());
+    let missing = float_patterns(&mut rng).filter(|&bits| both.hundredths(bits).is_none());
+    assert_eq!(missing.count(), 2 * 8_072);
+    both.done();
+    assert!(both.compared() > 8_000_000);
 }
 
 /// Every pattern that there is.
 #[test]
 #[ignore = "takes a minute"]
 fn hundredths_of_every_pattern() {
+    let both = Both::new();
     for bits in 0..=u32::MAX {
-        convert(bits);
+        both.hundredths(bits);
     }
-    println!("compared {} patterns' hundredths", 1_u64 << 32);
+    both.done();
 }
 
 /// Only odd eighths of a knot are ties; all of them to beyond the cut, and their neighbours.
 #[test]
 fn ties_go_away_from_zero() {
-    let mut compared = 0u64;
+    let both = Both::new();
     for eighths in (1..=100_001).step_by(2) {
         for sign in [1, -1] {
             let bits = ((sign * eighths) as f32 / 8.0).to_bits();
             let away = (25 * eighths + 1) / 2;
             let signed = |size: i32| Some(cut((sign * size).into()));
-            assert_eq!(convert(bits), signed(away));
-            assert_eq!(convert(bits + 1), signed(away));
-            assert_eq!(convert(bits - 1), signed(away - 1));
-            compared += 3;
+            assert_eq!(both.hundredths(bits), signed(away));
+            assert_eq!(both.hundredths(bits + 1), signed(away));
+            assert_eq!(both.hundredths(bits - 1), signed(away - 1));
         }
     }
-    println!("compared {compared} ties and neighbours");
+    both.done();
 }
 
-/// How much has been compared: answers of the functions, and buffers or their parts; and how often each number came.
+/// Calls of the reference and the library, and how often each number came. What is refused has no bytes.
 #[derive(Default)]
 struct Tally {
-    calls: u64,
-    parts: u64,
+    both: Both,
     came: BTreeMap<u16, u64>,
 }
 
 impl Tally {
-    fn count(&mut self, number: u16, parts: usize) {
-        self.calls += 1;
-        self.parts += parts as u64;
+    fn count(&mut self, number: u16) {
         *self.came.entry(number).or_default() += 1;
     }
 
     fn header(&mut self, count: u32, len: usize) -> Vec<u8> {
-        let want = reference::write_header(count, len).map_err(u16::from);
-        let (number, bytes) = lend(len, |buf| windshear::write_header(count, buf), want);
-        self.count(number, 1);
-        bytes
+        let written = self.both.write_header(count, len);
+        self.count(written.err().unwrap_or(0).into());
+        written.map_or(Vec::new(), Vec::from)
     }
 
     fn record(&mut self, r: &Record, len: usize) -> (u16, Vec<u8>) {
-        let sent = windshear::Record {
-            along: f32::from_bits(r.along),
-            vertical: f32::from_bits(r.vertical),
-            airspeed: f32::from_bits(r.airspeed),
-            height: r.height,
-            pitch: r.pitch,
-            stall: r.stall,
-            climb: r.climb,
-            vs1: r.vs1,
-            mode: r.mode,
-            deselect: r.deselect,
-        };
-        let want = reference::write_record(r, len).map_err(u16::from);
-        let (number, bytes) = lend(len, |buf| windshear::write_record(&sent, buf), want);
-        self.count(number, 1);
-        (number, bytes)
+        let written = self.both.write_record(r, len);
+        let number = written.err().unwrap_or(0).into();
+        self.count(number);
+        (number, written.map_or(Vec::new(), Vec::from))
     }
 
-    /// One run with an answer buffer so long; a part is an answer of ten bytes, or all that was untouched.
+    /// One run with an answer buffer so long.
     fn run(&mut self, file: &[u8], len: usize) -> (Outcome, Vec<u8>) {
-        let want = reference::run(file, len).map_err(|(number, at)| refused(number, at as usize));
-        let (outcome, bytes) = lend(len, |answers| windshear::run(file, answers), want);
-        let parts = if outcome.refusal == 0 { len / 10 } else { 1 };
-        self.count(outcome.refusal, parts);
+        let (outcome, bytes) = match self.both.run(file, len) {
+            Ok(bytes) => (Outcome::default(), bytes),
+            Err((number, place)) => (refused(number, place as usize), Vec::new()),
+        };
+        self.count(outcome.refusal);
         (outcome, bytes)
     }
 
@@ -123,8 +94,8 @@ impl Tally {
 
     /// Prints the line, and tests that exactly these numbers came.
     fn done(&self, what: &str, numbers: &[RangeInclusive<u16>]) {
-        let Tally { calls, parts, came } = self;
-        let compared = calls + parts;
+        let Tally { both, came } = self;
+        let (compared, calls) = (both.compared(), came.values().sum::<u64>());
         println!("compared {compared} answers and buffers of {calls} {what}, by number {came:?}");
         assert!(came.keys().copied().eq(numbers.iter().cloned().flatten()));
     }
