@@ -1,2 +1,3 @@
 pub mod Exported
+pub mod Promise
 pub mod Demand3

@@ -46,6 +46,7 @@ use Rattle.unit.proofs.State.offer as offer
 use Rattle.unit.proofs.State.offer.Met as offer-met
 use Rattle.unit.proofs.State.offer.Symbol as offer-symbol
 use Rattle.unit.proofs.State.offer.Symbol.{name as #unit·State·offer}
+use Rattle.host.specs.Promise.{LentPromise}
 use Rattle.host.proofs.Structs.{sample, state, answer, offered, rowOf, val, vals, tells, Known, has, learns, typed, answer-of, state-of}
 use Rattle.host.proofs.windshear_offer_lent as lent
 use Rattle.host.proofs.windshear_offer_lent.Code as code
@@ -85,6 +86,7 @@ module _ {M : Type 1} (𝓤 : URA M) (H : Heap 𝓤) (A : Atoms 𝓤) (at-mem : 
       exits : (r : Offered) → r ≡ offerOf t s → Known answer (r .answer)
           → ent 𝓤 (sep 𝓤 (A .obs γ (rowOf state .coded .code (r .state))) (sep 𝓤 (A .bor κ (Body (mem (rowOf state)) b o γ)) (A .lft κ q)))
           (Post (val answer (r .answer)))
+      unfolding LentPromise
       exits r e is =
           qed W (‵ (fobs γ (rowOf state .coded .code (r .state))) ∷ ‵ (fbor κ (Body (mem (rowOf state)) b o γ)) ∷ ‵ (flft κ q) ∷ []) ∵
           suffices ! _ (ends-at 𝓤 H A lent.ended stayed claim W (((κ, tt), (q, tt), tt, x, at), tt) _ (r .answer) (r .state, (tt, tt)) (tt, (tt, tt))) $
