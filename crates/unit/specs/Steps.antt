@@ -181,6 +181,11 @@ refusalOf t s = cond (passes t) (refusal s) 8
 unfoldable pub offerOf : State → Sample → Offered
 offerOf t s = cond (eqb (refusalOf t s) 0) (acceptOf t s) (record { answer = refusedOf (refusalOf t s); state = t })
 
+-- The promise of the plain form, of the state before, the sample, the answer and the state after: "a state in and a state out" (01, "What the
+-- unit covers").
+unfoldable pub PlainPromise : State → Sample → Answer → State → Type 0
+PlainPromise t s a u = _≡_ {A = Offered} (record { answer = a; state = u }) (offerOf t s)
+
 -- ════ What the private functions ask ════
 
 unfoldable pub HeldWithin : List ℤ → Type 0
