@@ -18,7 +18,7 @@ use Rattle.rounding.proofs.Fits.{exact, minus, size-ge}
 use Rattle.unit.specs.Choice.{neg, within, same, anyOf, every}
 use Rattle.unit.specs.Claims.{stateAfter, answerTo, accepted, StatesPass, LeftPasses, shows, AnswersByRules, RefusedIsNothing, Reaches, Below, lastAlert, Demand3At, Demand3Lone}
 use Rattle.unit.specs.Rules as rules
-use Rattle.unit.specs.Rules.{refusal, change, exactShear, held, entries, Window, windows, inBand, lastOf, metUp, condition, redCondition, litFor, redFor, redLit, amberFor, amberLit, redComesOn, voiceFor, guidance, Guidance, off, on, isOn, commandOf, guidanceBy}
+use Rattle.unit.specs.Rules.{ranges, inside, refusal, change, exactShear, held, entries, Window, windows, inBand, lastOf, metUp, condition, redCondition, litFor, redFor, redLit, amberFor, amberLit, redComesOn, voiceFor, guidance, Guidance, off, on, isOn, commandOf, guidanceBy}
 use Rattle.unit.specs.Steps.{freshState, shearOf, pushed, windowsOf, lampsOf, voiceOf, guideOf, pitchOf, passes, refusedOf, refusalOf, offerOf, acceptOf, guideNext}
 use Rattle.unit.specs.declared.Answer.{Answer}
 use Rattle.unit.specs.declared.Offered.{Offered}
@@ -30,7 +30,7 @@ use Rattle.unit.proofs.Choices.{cond-has}
 use Rattle.unit.proofs.Follow.{stateOf, toGuide, countOf, heldOf, lastAlong, lastMode, seenOf, accept-follows, guide-next, not-zero}
 use Rattle.unit.proofs.HeldShear.{shear-le}
 use Rattle.unit.proofs.PitchLaws.{lamp-le, unless-le, voice-le, count-le, command-ge, command-le, command-cap}
-use Rattle.unit.proofs.RangeLaws.{bounds, size-le, no-number, Fields, in-range-fields, in-range, Passing, passing, passes-of}
+use Rattle.unit.proofs.RangeLaws.{bounds, inside-bounds, size-le, no-number, Fields, in-range-fields, in-range, Passing, passing, passes-of}
 
 -- ════ Accepted samples ════
 
@@ -117,7 +117,7 @@ record GuideFits (l : List Sample) : Type 0 where
   high : commandOf (guidance l) ≤ℤ pos 27000
 
 guide-fits : (l : List Sample) → AllAccepted l → GuideFits l
-unfolding guidance guidanceBy commandOf
+unfolding ranges guidance guidanceBy commandOf
 guide-fits [] h = record { count = lit≤ tt; low = leZ-yes tt; high = leZ-yes tt }
 guide-fits (s ∷ l) h =
     let g = guide-fits l (h .1) in
@@ -126,17 +126,17 @@ guide-fits (s ∷ l) h =
     let e = guide-next s l in
     record {
       count = subst (λ (r : Guide). r .count ≤ 600) e (count-le (toGuide (guidance l)) s comes (g .count));
-      low = subst (λ (r : Guide). neg 30000 ≤ℤ r .command) e (command-ge (toGuide (guidance l)) s comes (g .low) (bounds (f .pitch-in) .0) (bounds (f .stall-in) .0));
+      low = subst (λ (r : Guide). neg 30000 ≤ℤ r .command) e (command-ge (toGuide (guidance l)) s comes (g .low) (inside-bounds (f .pitch-in) .0) (inside-bounds (f .stall-in) .0));
       high = subst (λ (r : Guide). r .command ≤ℤ pos 27000) e (command-le (toGuide (guidance l)) s comes);
     }
 
-along-fits : (l : List Sample) → AllAccepted l → within (neg 20000) (lastAlong l) (pos 20000) ≡ true
-unfolding within
+along-fits : (l : List Sample) → AllAccepted l → inside (ranges .along) (lastAlong l) ≡ true
+unfolding inside ranges within
 along-fits [] h = refl
 along-fits (s ∷ l) h = in-range-fields s (h .0) .along-in
 
-mode-fits : (l : List Sample) → AllAccepted l → within (pos 0) (lastMode l) (pos 1) ≡ true
-unfolding within
+mode-fits : (l : List Sample) → AllAccepted l → inside (ranges .mode) (lastMode l) ≡ true
+unfolding inside ranges within
 mode-fits [] h = refl
 mode-fits (s ∷ l) h = in-range-fields s (h .0) .mode-in
 
@@ -170,11 +170,11 @@ at-most : {n k : ℕ} → n ≤ k → k ≤ 600 → n ≤ 600
 at-most h k = omega (arith, h, k)
 
 next-passing : (t : State) (s : Sample) → Passing t → refusal s ≡ 0 → Passing (acceptOf t s .state)
-unfolding acceptOf windowsOf pushed lampsOf voiceOf pitchOf guideOf shearOf every
+unfolding ranges acceptOf windowsOf pushed lampsOf voiceOf pitchOf guideOf shearOf every
 next-passing t s p h =
     let f = in-range-fields s h in
     let r = in-range s h in
-    let wind = size-le 20000 (bounds (p .along-in)) tt tt in
+    let wind = size-le 20000 (inside-bounds (p .along-in)) tt tt in
     let turn =
     cond-has (λ (x : ℤ). natAbs x ≤ 40000) (ltb 0 (t .core .seen)) (λ k. minus (exact (s .along) (r .along-le)) (exact (t .core .along) wind) .le) (λ k. lit≤ tt)
     in
@@ -186,7 +186,7 @@ next-passing t s p h =
       amber-le = at-most (unless-le _ _) (at-most (lamp-le _ _) (lit≤ tt));
       voice-le = at-most (voice-le _ _) (lit≤ tt);
       guidance-le = count-le _ s _ (p .guidance-le);
-      command-in = within-of (command-ge _ s _ (bounds (p .command-in) .0) (bounds (f .pitch-in) .0) (bounds (f .stall-in) .0)) (command-le _ s _);
+      command-in = within-of (command-ge _ s _ (bounds (p .command-in) .0) (inside-bounds (f .pitch-in) .0) (inside-bounds (f .stall-in) .0)) (command-le _ s _);
       along-in = f .along-in;
       mode-in = f .mode-in;
     }

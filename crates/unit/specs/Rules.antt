@@ -14,19 +14,59 @@ use Rattle.unit.specs.declared.Sample.{Sample}
 
 -- ════ A sample ════
 
--- whether each of the ten fields is accepted, in table order
-unfoldable pub inRange : Sample → List Bool
-inRange s =
-    within (neg 20000) (s .along) (pos 20000)
-    ∷ within (neg 10000) (s .vertical) (pos 10000)
-    ∷ within (pos 6000) (s .airspeed) (pos 60000)
-    ∷ within (neg 20) (s .height) (pos 5000)
-    ∷ within (neg 30000) (s .pitch) (pos 30000)
-    ∷ within (neg 10000) (s .stall) (pos 30000)
-    ∷ within (neg 10000) (s .climb) (pos 10000)
-    ∷ within (pos 5000) (s .vs1) (pos 30000)
-    ∷ within (pos 0) (s .mode) (pos 1)
-    ∷ within (pos 0) (s .deselect) (pos 1)
+-- a range of accepted values, both ends in
+pub record Range : Type 0 where
+  pub least : ℤ
+  pub greatest : ℤ
+
+-- one for each of the ten fields
+pub record Ranges : Type 0 where
+  pub along : Range
+  pub vertical : Range
+  pub airspeed : Range
+  pub height : Range
+  pub pitch : Range
+  pub stall : Range
+  pub climb : Range
+  pub vs1 : Range
+  pub mode : Range
+  pub deselect : Range
+
+abbrev pub span : ℤ → ℤ → Range
+span least greatest = record { least = least; greatest = greatest }
+
+-- the table's column "accepted"
+unfoldable pub ranges : Ranges
+ranges =
+    record {
+      along = span (neg 20000) (pos 20000);
+      vertical = span (neg 10000) (pos 10000);
+      airspeed = span (pos 6000) (pos 60000);
+      height = span (neg 20) (pos 5000);
+      pitch = span (neg 30000) (pos 30000);
+      stall = span (neg 10000) (pos 30000);
+      climb = span (neg 10000) (pos 10000);
+      vs1 = span (pos 5000) (pos 30000);
+      mode = span (pos 0) (pos 1);
+      deselect = span (pos 0) (pos 1);
+    }
+
+unfoldable pub inside : Range → ℤ → Bool
+inside r x = within (r .least) x (r .greatest)
+
+-- whether each of the ten fields is accepted by a table of ranges, in table order
+unfoldable pub inRange : Ranges → Sample → List Bool
+inRange table s =
+    inside (table .along) (s .along)
+    ∷ inside (table .vertical) (s .vertical)
+    ∷ inside (table .airspeed) (s .airspeed)
+    ∷ inside (table .height) (s .height)
+    ∷ inside (table .pitch) (s .pitch)
+    ∷ inside (table .stall) (s .stall)
+    ∷ inside (table .climb) (s .climb)
+    ∷ inside (table .vs1) (s .vs1)
+    ∷ inside (table .mode) (s .mode)
+    ∷ inside (table .deselect) (s .deselect)
     ∷ []
 
 -- "Refusal numbers", 11 to 20: the number of the first field that is not accepted, the first field's being n; 0 where all are
@@ -35,7 +75,7 @@ firstBad n [] = 0
 firstBad n (ok ∷ rest) = cond ok (firstBad (n + 1) rest) n
 
 unfoldable pub refusal : Sample → ℕ
-refusal s = firstBad 11 (inRange s)
+refusal s = firstBad 11 (inRange ranges s)
 
 -- ════ Shear ════
 

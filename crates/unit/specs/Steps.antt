@@ -9,7 +9,7 @@ use lib.IntN.{ℤ, pos, negℤ, natAbs, _-ℤ_}
 use lib.ListN.{getD, take, replicate}
 use lib.Signed.{leZ, _≤ℤ_}
 use Rattle.unit.specs.Choice.{neg, within, same, smaller, anyOf, every}
-use Rattle.unit.specs.Rules.{refusal, heldShear, windowSum, metUp, metDown, windows, cycle, cap, towards, counted}
+use Rattle.unit.specs.Rules.{ranges, inside, refusal, heldShear, windowSum, metUp, metDown, windows, cycle, cap, towards, counted}
 use Rattle.unit.specs.declared.Answer.{Answer}
 use Rattle.unit.specs.declared.Core.{Core}
 use Rattle.unit.specs.declared.Offered.{Offered}
@@ -168,7 +168,7 @@ countersFit c = leb (c .seen) 600 && leb (c .red) 600 && leb (c .amber) 600 && l
 
 -- "a command outside -30,000 to 27,000, or a last along wind or last mode outside its range above"
 unfoldable pub lastFits : Core → Bool
-lastFits c = within (neg 30000) (c .command) (pos 27000) && within (neg 20000) (c .along) (pos 20000) && within (pos 0) (c .mode) (pos 1)
+lastFits c = within (neg 30000) (c .command) (pos 27000) && inside (ranges .along) (c .along) && inside (ranges .mode) (c .mode)
 
 unfoldable pub passes : State → Bool
 passes t = heldFits (t .held) && countersFit (t .core) && lastFits (t .core)
@@ -180,6 +180,11 @@ refusalOf t s = cond (passes t) (refusal s) 8
 -- "A refused sample is as if never offered."
 unfoldable pub offerOf : State → Sample → Offered
 offerOf t s = cond (eqb (refusalOf t s) 0) (acceptOf t s) (record { answer = refusedOf (refusalOf t s); state = t })
+
+-- The promise of the plain form, of the state before, the sample, the answer and the state after: "a state in and a state out" (01, "What the
+-- unit covers").
+unfoldable pub PlainPromise : State → Sample → Answer → State → Type 0
+PlainPromise t s a u = _≡_ {A = Offered} (record { answer = a; state = u }) (offerOf t s)
 
 -- ════ What the private functions ask ════
 

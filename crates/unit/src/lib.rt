@@ -3,7 +3,7 @@ ghost use mathlib.Core.Path.{_≡_};
 ghost use Prim.Native.Nat.{_≤_};
 ghost use lib.IntN.{natAbs};
 ghost use Rattle.unit.specs.Rules.{refusal};
-ghost use Rattle.unit.specs.Steps.{freshState, Valid, InRange, shearOf, windowsOf, lampsOf, voiceOf, pitchOf, answerOf, acceptOf, offerOf};
+ghost use Rattle.unit.specs.Steps.{freshState, Valid, InRange, shearOf, windowsOf, lampsOf, voiceOf, pitchOf, answerOf, acceptOf, PlainPromise};
 
 mod lamps;
 mod pitch;
@@ -208,7 +208,7 @@ impl State {
     // A sample offered in the plain form: refused by the first number that fits, 8 and then 11 to 20, with the state handed back as it
     // was; or answered, with the next state.
     pub fn offer(self, s: Sample) -> Offered
-        ensures { λ r. ⌜ r ≡ offerOf self s ⌝ }
+        ensures { λ r. ⌜ PlainPromise self s (r .answer) (r .state) ⌝ }
     {
         let n = ranges::first_of(ranges::passes(self), 8, ranges::refusal(s));
         if n == 0 {
