@@ -4,12 +4,12 @@ use mathlib.Core.List.{List, [], _∷_, map}
 use mathlib.Core.Path.{_≡_, refl, ap, _∙_}
 use lib.Dec.{eqb}
 use Rattle.host.specs.Demand3.{Form, plain, lent, Call, Promised, stateLeft, Meets, acceptedOf, alertShown, Demand3}
-use Rattle.host.specs.Promise.{PlainPromise, LentPromise}
+use Rattle.host.specs.Lent.{LentPromise}
 use Rattle.runfile.proofs.RunClaims.{demand-3-run}
 use Rattle.unit.proofs.Claims.{states-pass, answers-by-rules, demand-3-lone}
 use Rattle.unit.specs.Claims.{stateAfter, answerTo, lastAlert, StatesPass, AnswersByRules, Demand3Lone}
 use Rattle.unit.specs.Rules.{refusal}
-use Rattle.unit.specs.Steps.{offerOf}
+use Rattle.unit.specs.Steps.{offerOf, PlainPromise}
 use Rattle.unit.specs.declared.Answer.{Answer}
 use Rattle.unit.specs.declared.Offered.{Offered}
 use Rattle.unit.specs.declared.Sample.{Sample}

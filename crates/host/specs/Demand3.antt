@@ -14,11 +14,11 @@ use mathlib.Core.Bool.{true, cond}
 use mathlib.Core.Path.{_≡_}
 use Prim.Native.Nat.{ℕ}
 use lib.Dec.{eqb}
-use Rattle.host.specs.Promise.{PlainPromise, LentPromise}
+use Rattle.host.specs.Lent.{LentPromise}
 use Rattle.runfile.specs.Claims.{Demand3Run}
 use Rattle.unit.specs.Claims.{accepted, shows, Demand3At}
 use Rattle.unit.specs.Rules.{refusal}
-use Rattle.unit.specs.Steps.{freshState, passes, refusedOf}
+use Rattle.unit.specs.Steps.{freshState, passes, refusedOf, PlainPromise}
 use Rattle.unit.specs.declared.Answer.{Answer}
 use Rattle.unit.specs.declared.Sample.{Sample}
 use Rattle.unit.specs.declared.State.{State}
@@ -35,7 +35,7 @@ pub record Call : Type 0 where
   pub answer : Answer
   pub after : State
 
--- what the function of a form promises, of the state that it was given, the sample, its answer and the state after
+-- what the function of a form promises, as its `ensures` says it, of the state that it was given, the sample, its answer and the state after
 unfoldable pub Promised : Form → State → Sample → Answer → State → Type 0
 Promised plain = PlainPromise
 Promised lent = LentPromise

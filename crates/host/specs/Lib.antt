@@ -1,3 +1,3 @@
 pub mod Exported
-pub mod Promise
+pub mod Lent
 pub mod Demand3

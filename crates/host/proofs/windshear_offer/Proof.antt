@@ -1,11 +1,9 @@
 -- `host::windshear_offer` meets its contract: it promises what `State::offer` does.
 use borrow.Author.Needs.{needs}
-use Rattle.host.specs.Promise.{PlainPromise}
 use Rattle.host.proofs.windshear_offer.Statement.{statement}
 use Rattle.host.proofs.windshear_offer.Tie as tie
 
 returns : tie.Need-returns
-unfolding PlainPromise
 returns c = c .offer .ensures
 
 pub windshear-offer-spec : {M : Type 1} → statement M

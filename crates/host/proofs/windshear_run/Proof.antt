@@ -7,4 +7,4 @@ returns : tie.Need-returns
 returns c = c .before .before .run .ensures
 
 pub windshear-run-spec : {M : Type 1} → statement M
-windshear-run-spec = tie.close (tie.spec (λ c κs. search needs) returns)
+windshear-run-spec = tie.close (tie.spec (λ c κs. search needs) (λ c. search needs) returns)
