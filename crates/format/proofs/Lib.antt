@@ -8,3 +8,4 @@ pub mod Fields
 pub mod Starred
 pub mod RecordLaws
 pub mod RecordClaims
+pub mod ReadingLaws
