@@ -9,3 +9,4 @@ pub mod Starred
 pub mod RecordLaws
 pub mod RecordClaims
 pub mod ReadingLaws
+pub mod ReadingClaims
