@@ -17,7 +17,7 @@ use Rattle.rounding.proofs.Difference.{up, down, any, nat, +D, -D, *D, eqD, leD
 use Rattle.rounding.proofs.Sums.{sum-error, sum-positive}
 use Rattle.unit.specs.Choice.{anyOf}
 use Rattle.unit.specs.Claims.{tolerance, tableValue, averageOf, Reaches, Below}
-use Rattle.unit.specs.Rules.{held, heldShear, exact, exactShear, entries, Window, lastOf, windowSum, average, metUp}
+use Rattle.unit.specs.Rules.{held, heldShear, exact, exactShear, entries, Window, lastOf, windowSum, average, limit, metUp}
 use Rattle.unit.specs.declared.Sample.{Sample}
 
 -- ════ Scaled sums ════
@@ -135,13 +135,13 @@ module _ (l : List Sample) (ok : AllPositive (entries exact l)) where
   divisor n = sum-positive (lastOf n zeroF (entries exact l)) (last-positive n (entries exact l) ok)
 
   reached-met : (w : Window) → Reaches l w → metUp (entries held l) w ≡ true
-  unfolding Reaches tableValue tolerance averageOf average metUp
+  unfolding Reaches tableValue tolerance averageOf average metUp limit
   reached-met w h =
       let n = w .samples in
       is-true _ (sum-reaches (windowSum n (entries held l)) (exact-sum n l .num) (exact-sum n l .den) n (w .value) (divisor n) (near n) h .le)
 
   below-unmet : (w : Window) → Below l w → metUp (entries held l) w ≡ false
-  unfolding Below tableValue tolerance averageOf average metUp
+  unfolding Below tableValue tolerance averageOf average metUp limit
   below-unmet w h =
       let n = w .samples in
       is-false (sum-below (windowSum n (entries held l)) (exact-sum n l .num) (exact-sum n l .den) n (w .value) (divisor n) (near n) h)

@@ -16,7 +16,7 @@ use Rattle.rounding.specs.Fraction.{sumℤ}
 use Rattle.unit.specs.Choice.{within, same, smaller, anyOf}
 use Rattle.unit.specs.Claims.{shows}
 use Rattle.unit.specs.Rules.{change, held, entries, row, windows, lastOf, windowSum, metUp, metDown, inBand, condition, redCondition, amberCondition, litFor, redFor, redLit, redComesOn, amberFor, amberLit, modeChange, voiceFor, cycle, voice, counted, cap, towards, Guidance, off, on, guided, guidanceBy, guidance, isOn, commandOf}
-use Rattle.unit.specs.Steps.{pushed, sumsOf, metOf, shearOf, windowsOf, lampNext, unlessLit, lampsOf, changedOf, keptOf, voiceNext, voiceOf, noGuide, startedOf, continuedOf, guideNext, guideOf, pitchOf, alertOf, shownOf, answerOf, acceptOf}
+use Rattle.unit.specs.Steps.{pushed, sumsOf, sumList, reached, someReached, metOf, shearOf, windowsOf, lampNext, unlessLit, lampsOf, changedOf, keptOf, voiceNext, voiceOf, noGuide, startedOf, continuedOf, guideNext, guideOf, pitchOf, alertOf, shownOf, answerOf, acceptOf}
 use Rattle.unit.specs.declared.Offered.{Offered}
 use Rattle.unit.specs.declared.Sample.{Sample}
 use Rattle.unit.specs.declared.State.{State}
@@ -213,7 +213,7 @@ alert-follows r n = rw (lit-follows r 60 (lit≤ tt), lit-follows n 60 (lit≤ t
 
 -- the windows that the state holds are met as those of all the entries
 met-follows : (e : List ℤ) → (metOf true (sumsOf (lastOf 200 (pos 0) e)) ≡ anyOf (metUp e) windows) × (metOf false (sumsOf (lastOf 200 (pos 0) e)) ≡ anyOf (metDown e) windows)
-unfolding metOf sumsOf metUp metDown windows anyOf
+unfolding metOf someReached reached sumList sumsOf metUp metDown windows anyOf
 met-follows e = (
   rw (window-follows e 200 0 refl, window-follows e 180 20 refl, window-follows e 160 40 refl, window-follows e 140 60 refl, window-follows e 120 80 refl, window-follows e 100 100 refl),
   rw (window-follows e 200 0 refl, window-follows e 180 20 refl, window-follows e 160 40 refl, window-follows e 140 60 refl, window-follows e 120 80 refl, window-follows e 100 100 refl),

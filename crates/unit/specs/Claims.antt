@@ -88,13 +88,14 @@ unfoldable pub lastAlert : List Sample → ℕ
 lastAlert [] = 0
 lastAlert (s ∷ before) = cond (eqb (refusal s) 0) (answerTo s before .alert) (lastAlert before)
 
--- What demand 3 asks at one accepted sample s, with the accepted samples before it: whether red was lit at the one before (false where there was
--- none) and is lit at this one, whether the command is shown, and the command. It says nothing of counters or arrays: averages come from the list.
-pub record Demand3At (s : Sample) (before : List Sample) (wasRed red shown : Bool) (command : ℤ) : Type 0 where
+-- What demand 3 asks at one accepted sample s, by a table of windows, with the accepted samples before it: whether red was lit at the one before
+-- (false where there was none) and is lit at this one, whether the command is shown, and the command. It says nothing of counters or arrays:
+-- averages come from the list.
+pub record Demand3At (table : List Window) (s : Sample) (before : List Sample) (wasRed red shown : Bool) (command : ℤ) : Type 0 where
   -- "red is lit where an exact average reaches its table value plus 0.000005 in the band"
-  pub lit : (w : Window) → List·Memᴰ w windows → inBand s ≡ true → Reaches (s ∷ before) w → red ≡ true
+  pub lit : (w : Window) → List·Memᴰ w table → inBand s ≡ true → Reaches (s ∷ before) w → red ≡ true
   -- "a dark red lamp stays dark where all averages lie below by more than 0.000005 or the height is out of band"
-  pub dark : wasRed ≡ false → (inBand s ≡ false) ⊎ ((w : Window) → List·Memᴰ w windows → Below (s ∷ before) w) → red ≡ false
+  pub dark : wasRed ≡ false → (inBand s ≡ false) ⊎ ((w : Window) → List·Memᴰ w table → Below (s ∷ before) w) → red ≡ false
   -- "the command shown is never above 27 degrees nor the sample's stall-warning pitch"
   pub capped : shown ≡ true → (command ≤ℤ pos 27000) × (command ≤ℤ s .stall)
 
@@ -102,4 +103,4 @@ pub record Demand3At (s : Sample) (before : List Sample) (wasRed red shown : Boo
 unfoldable pub Demand3Lone : Type 0
 Demand3Lone =
     (before : List Sample) (s : Sample) → refusal s ≡ 0
-    → Demand3At s (accepted before) (eqb (lastAlert before) 2) (eqb (answerTo s before .alert) 2) (eqb (answerTo s before .guidance) 1) (answerTo s before .command)
+    → Demand3At windows s (accepted before) (eqb (lastAlert before) 2) (eqb (answerTo s before .alert) 2) (eqb (answerTo s before .guidance) 1) (answerTo s before .command)

@@ -128,12 +128,16 @@ windowSum n l = sumℤ (lastOf n (pos 0) l)
 unfoldable pub average : ℕ → List Fraction → Fraction
 average n l = divideF (sumF (lastOf n zeroF l)) n
 
+-- "samples × value"
+unfoldable pub limit : Window → ℤ
+limit w = pos (w .samples * w .value)
+
 -- "met upward when its sum is at least samples × value, downward when the negated sum is"
 unfoldable pub metUp : List ℤ → Window → Bool
-metUp l w = leZ (pos (w .samples * w .value)) (windowSum (w .samples) l)
+metUp l w = leZ (limit w) (windowSum (w .samples) l)
 
 unfoldable pub metDown : List ℤ → Window → Bool
-metDown l w = leZ (pos (w .samples * w .value)) (negℤ (windowSum (w .samples) l))
+metDown l w = leZ (limit w) (negℤ (windowSum (w .samples) l))
 
 -- "height 50 to 1,000, both ends in"
 unfoldable pub inBand : Sample → Bool
@@ -141,15 +145,15 @@ inBand s = within (pos 50) (s .height) (pos 1000)
 
 -- ".. and some window met upward"; amber: "the same, downward". Both may hold at once. Outside the band the windows still fill: `entries`
 -- does not look at the height.
-unfoldable pub condition : (List ℤ → Window → Bool) → List Sample → Bool
-condition met [] = false
-condition met (s ∷ before) = inBand s && anyOf (met (entries held (s ∷ before))) windows
+unfoldable pub condition : (List ℤ → Window → Bool) → List Window → List Sample → Bool
+condition met table [] = false
+condition met table (s ∷ before) = inBand s && anyOf (met (entries held (s ∷ before))) table
 
 unfoldable pub redCondition : List Sample → Bool
-redCondition = condition metUp
+redCondition = condition metUp windows
 
 unfoldable pub amberCondition : List Sample → Bool
-amberCondition = condition metDown
+amberCondition = condition metDown windows
 
 -- ════ Lamps and voice ════
 
