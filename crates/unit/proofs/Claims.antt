@@ -18,8 +18,8 @@ use Rattle.rounding.proofs.Fits.{exact, minus, size-ge}
 use Rattle.unit.specs.Choice.{neg, within, same, anyOf, every}
 use Rattle.unit.specs.Claims.{stateAfter, answerTo, accepted, StatesPass, LeftPasses, shows, AnswersByRules, RefusedIsNothing, Reaches, Below, lastAlert, Demand3At, Demand3Lone}
 use Rattle.unit.specs.Rules as rules
-use Rattle.unit.specs.Rules.{ranges, inside, refusal, change, exactShear, held, entries, Window, windows, inBand, lastOf, metUp, condition, redCondition, litFor, redFor, redLit, amberFor, amberLit, redComesOn, voiceFor, guidance, Guidance, off, on, isOn, commandOf, guidanceBy}
-use Rattle.unit.specs.Steps.{freshState, shearOf, pushed, windowsOf, lampsOf, voiceOf, guideOf, pitchOf, passes, refusedOf, refusalOf, offerOf, acceptOf, guideNext}
+use Rattle.unit.specs.Rules.{ranges, inside, refusal, change, exactShear, held, entry, exactEntry, entries, Window, windows, inBand, lastOf, metUp, condition, redCondition, litFor, redFor, redLit, amberFor, amberLit, redComesOn, voiceFor, guidance, Guidance, off, on, isOn, commandOf, guidanceBy}
+use Rattle.unit.specs.Steps.{freshState, shearOf, entryOf, pushed, windowsOf, lampsOf, voiceOf, guideOf, pitchOf, passes, refusedOf, refusalOf, offerOf, acceptOf, guideNext}
 use Rattle.unit.specs.declared.Answer.{Answer}
 use Rattle.unit.specs.declared.Offered.{Offered}
 use Rattle.unit.specs.declared.Sample.{Sample}
@@ -82,10 +82,14 @@ held-le s l h =
     let r = in-range s (h .0) in
     shear-le (change s l) (s .vertical) (s .airspeed) (change-le s l h) (r .vertical-le) (size-ge (s .airspeed) (r .airspeed-ge))
 
-entries-fit : (l : List Sample) → AllAccepted l → every fits (entries held l) ≡ true
+entry-le : (s : Sample) (l : List Sample) → AllAccepted (s ∷ l) → natAbs (entry s l) ≤ 50000000
+unfolding entry
+entry-le s l h = held-le s l h
+
+entries-fit : (l : List Sample) → AllAccepted l → every fits (entries entry l) ≡ true
 unfolding every entries
 entries-fit [] h = refl
-entries-fit (s ∷ l) h = rw (size-fits (held s l) (held-le s l h)) (entries-fit l (h .1))
+entries-fit (s ∷ l) h = rw (size-fits (entry s l) (entry-le s l h)) (entries-fit l (h .1))
 
 -- both halves of a test
 halves : (a b : Bool) → (a && b) ≡ true → (a ≡ true) × (b ≡ true)
@@ -109,7 +113,7 @@ take-fit (suc n) (x ∷ e) h = let t = halves (fits x) (every fits e) h in rw (t
 
 held-fits : (l : List Sample) → AllAccepted l → every fits (heldOf l) ≡ true
 unfolding lastOf
-held-fits l h = take-fit 200 (entries held l ++ replicate 200 (pos 0)) (zeros-fit (entries held l) 200 (entries-fit l h))
+held-fits l h = take-fit 200 (entries entry l ++ replicate 200 (pos 0)) (zeros-fit (entries entry l) 200 (entries-fit l h))
 
 record GuideFits (l : List Sample) : Type 0 where
   count : countOf (guidance l) ≤ 600
@@ -170,7 +174,7 @@ at-most : {n k : ℕ} → n ≤ k → k ≤ 600 → n ≤ 600
 at-most h k = omega (arith, h, k)
 
 next-passing : (t : State) (s : Sample) → Passing t → refusal s ≡ 0 → Passing (acceptOf t s .state)
-unfolding ranges acceptOf windowsOf pushed lampsOf voiceOf pitchOf guideOf shearOf every
+unfolding ranges acceptOf entryOf windowsOf pushed lampsOf voiceOf pitchOf guideOf shearOf every
 next-passing t s p h =
     let f = in-range-fields s h in
     let r = in-range s h in
@@ -256,8 +260,8 @@ refused-is-nothing before later bad next h =
 
 -- ════ Demand 3 ════
 
-exact-positive : (l : List Sample) → AllAccepted l → AllPositive (entries rules.exact l)
-unfolding entries rules.exact exactShear
+exact-positive : (l : List Sample) → AllAccepted l → AllPositive (entries exactEntry l)
+unfolding entries exactEntry rules.exact exactShear
 exact-positive [] h = tt
 exact-positive (s ∷ l) h =
     let a = size-ge (s .airspeed) (in-range s (h .0) .airspeed-ge) in
@@ -316,7 +320,7 @@ stays-dark : (s : Sample) (l : List Sample) → redLit l ≡ false → redCondit
 unfolding redLit
 stays-dark s l d e = let z : redFor (s ∷ l) ≡ 0 = red-step s l ∙ rw (e, d) in rw z
 
-condition-in : (s : Sample) (l : List Sample) → redCondition (s ∷ l) ≡ (inBand s && anyOf (metUp (entries held (s ∷ l))) windows)
+condition-in : (s : Sample) (l : List Sample) → redCondition (s ∷ l) ≡ (inBand s && anyOf (metUp (entries entry (s ∷ l))) windows)
 unfolding redCondition condition
 condition-in s l = refl
 
@@ -339,7 +343,7 @@ module _ (before : List Sample) (s : Sample) (e : refusal s ≡ 0) where
   alert-is : answerTo s before .alert ≡ shows s (accepted before) .alert
   alert-is = ap (λ a. a .alert) (answer-is s before e)
 
-  positive : AllPositive (entries rules.exact (s ∷ accepted before))
+  positive : AllPositive (entries exactEntry (s ∷ accepted before))
   positive = exact-positive (s ∷ accepted before) (e, accepted-all before)
 
   lit : (w : Window) → List·Memᴰ w windows → inBand s ≡ true → Reaches (s ∷ accepted before) w → eqb (answerTo s before .alert) 2 ≡ true

@@ -15,8 +15,8 @@ use native.Mathlib.Decide.{decLt}
 use Rattle.rounding.specs.Fraction.{sumℤ}
 use Rattle.unit.specs.Choice.{within, same, smaller, anyOf}
 use Rattle.unit.specs.Claims.{shows}
-use Rattle.unit.specs.Rules.{change, held, entries, row, windows, lastOf, windowSum, metUp, metDown, inBand, condition, redCondition, amberCondition, litFor, redFor, redLit, redComesOn, amberFor, amberLit, modeChange, voiceFor, cycle, voice, counted, cap, towards, Guidance, off, on, guided, guidanceBy, guidance, isOn, commandOf}
-use Rattle.unit.specs.Steps.{pushed, sumsOf, sumList, reached, someReached, metOf, shearOf, windowsOf, lampNext, unlessLit, lampsOf, changedOf, keptOf, voiceNext, voiceOf, noGuide, startedOf, continuedOf, guideNext, guideOf, pitchOf, alertOf, shownOf, answerOf, acceptOf}
+use Rattle.unit.specs.Rules.{change, held, entry, entries, row, windows, lastOf, windowSum, metUp, metDown, inBand, condition, redCondition, amberCondition, litFor, redFor, redLit, redComesOn, amberFor, amberLit, modeChange, voiceFor, cycle, voice, counted, cap, towards, Guidance, off, on, guided, guidanceBy, guidance, isOn, commandOf}
+use Rattle.unit.specs.Steps.{pushed, sumsOf, sumList, reached, someReached, metOf, shearOf, entryOf, windowsOf, lampNext, unlessLit, lampsOf, changedOf, keptOf, voiceNext, voiceOf, noGuide, startedOf, continuedOf, guideNext, guideOf, pitchOf, alertOf, shownOf, answerOf, acceptOf}
 use Rattle.unit.specs.declared.Offered.{Offered}
 use Rattle.unit.specs.declared.Sample.{Sample}
 use Rattle.unit.specs.declared.State.{State}
@@ -49,7 +49,7 @@ made h along mode seen red amber voice g =
     record { held = h; core = record { along = along; mode = mode; command = g .command; seen = seen; red = red; amber = amber; voice = voice; guidance = g .count } }
 
 abbrev pub heldOf : List Sample → List ℤ
-heldOf l = lastOf 200 (pos 0) (entries held l)
+heldOf l = lastOf 200 (pos 0) (entries entry l)
 
 unfoldable pub stateOf : List Sample → State
 stateOf l =
@@ -61,6 +61,10 @@ shear-follows : (s : Sample) (l : List Sample) → shearOf (stateOf l) s ≡ hel
 unfolding shearOf stateOf held change
 shear-follows s [] = refl
 shear-follows s (last ∷ l) = refl
+
+entry-follows : (s : Sample) (l : List Sample) → entryOf (stateOf l) s ≡ entry s l
+unfolding entryOf entry
+entry-follows s l = shear-follows s l
 
 push-follows : (e : List ℤ) (x : ℤ) → pushed (lastOf 200 (pos 0) e) x ≡ lastOf 200 (pos 0) (x ∷ e)
 unfolding pushed lastOf
@@ -220,18 +224,18 @@ met-follows e = (
 )
 
 module _ (s : Sample) (l : List Sample) where
-  entered : windowsOf (stateOf l) s (held s l)
+  entered : windowsOf (stateOf l) s (entry s l)
       ≡ made (heldOf (s ∷ l)) (s .along) (lastMode l) (seenOf l) (min (redFor l) 60) (min (amberFor l) 60) (min (voiceFor redComesOn l) 73) (toGuide (guidance l))
   unfolding windowsOf stateOf entries
-  entered = rw (push-follows (entries held l) (held s l))
+  entered = rw (push-follows (entries entry l) (entry s l))
 
   red-holds : (within (pos 50) (s .height) (pos 1000) && metOf true (sumsOf (heldOf (s ∷ l)))) ≡ redCondition (s ∷ l)
   unfolding redCondition condition inBand
-  red-holds = rw (met-follows (entries held (s ∷ l)) .0)
+  red-holds = rw (met-follows (entries entry (s ∷ l)) .0)
 
   amber-holds : (within (pos 50) (s .height) (pos 1000) && metOf false (sumsOf (heldOf (s ∷ l)))) ≡ amberCondition (s ∷ l)
   unfolding amberCondition condition inBand
-  amber-holds = rw (met-follows (entries held (s ∷ l)) .1)
+  amber-holds = rw (met-follows (entries entry (s ∷ l)) .1)
 
   red-next : lampNext (min (redFor l) 60) (redCondition (s ∷ l)) ≡ min (redFor (s ∷ l)) 60
   unfolding redFor litFor
@@ -275,4 +279,4 @@ module _ (s : Sample) (l : List Sample) where
   -- an accepted sample's answer, and the state that it leaves
   pub accept-follows : acceptOf (stateOf l) s ≡ record { answer = shows s l; state = stateOf (s ∷ l) }
   unfolding acceptOf
-  accept-follows = rw (shear-follows s l, entered, lit, spoken, pitched, answered)
+  accept-follows = rw (shear-follows s l, entry-follows s l, entered, lit, spoken, pitched, answered)

@@ -9,7 +9,7 @@ use lib.Dec.{eqb}
 use lib.IntN.{ℤ, pos}
 use lib.Signed.{_≤ℤ_}
 use Rattle.rounding.specs.Fraction.{Fraction, _over_, _+F_, _≤F_, _<F_}
-use Rattle.unit.specs.Rules.{refusal, held, exact, entries, Window, windows, inBand, average, redLit, amberLit, voice, guidance, isOn, commandOf}
+use Rattle.unit.specs.Rules.{refusal, held, exactEntry, entries, Window, windows, inBand, average, redLit, amberLit, voice, guidance, isOn, commandOf}
 use Rattle.unit.specs.Steps.{freshState, passes, refusedOf, refusalOf, offerOf}
 use Rattle.unit.specs.declared.Answer.{Answer}
 use Rattle.unit.specs.declared.Offered.{Offered}
@@ -74,7 +74,7 @@ unfoldable pub tableValue : Window → Fraction
 tableValue w = pos (w .value) over 100000
 
 unfoldable pub averageOf : Window → List Sample → Fraction
-averageOf w l = average (w .samples) (entries exact l)
+averageOf w l = average (w .samples) (entries exactEntry l)
 
 -- "an exact average reaches its table value plus 0.000005"; "lies below by more than 0.000005"
 unfoldable pub Reaches : List Sample → Window → Type 0

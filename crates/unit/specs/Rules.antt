@@ -92,12 +92,20 @@ exactShear c vertical airspeed = (c *ℤ pos 18520) over 1765197 -F vertical ove
 unfoldable pub heldShear : ℤ → ℤ → ℤ → ℤ
 heldShear c vertical airspeed = roundF (timesF 100000 (exactShear c vertical airspeed))
 
--- what a sample enters into the windows; and, for "The list in demand 3", into the exact averages
+-- a sample's held shear, which its answer shows; and its exact one
 unfoldable pub held : Sample → List Sample → ℤ
 held s before = heldShear (change s before) (s .vertical) (s .airspeed)
 
 unfoldable pub exact : Sample → List Sample → Fraction
 exact s before = exactShear (change s before) (s .vertical) (s .airspeed)
+
+-- what a sample enters into the windows: "A window is the last that many held shears, this sample's included"
+unfoldable pub entry : Sample → List Sample → ℤ
+entry s before = held s before
+
+-- and into the exact averages: "Each accepted sample enters its exact shear: the formula above, unrounded" (01, "The list in demand 3")
+unfoldable pub exactEntry : Sample → List Sample → Fraction
+exactEntry s before = exact s before
 
 -- what the samples of a list have entered, the newest first
 unfoldable pub entries {ℓ} : {A : Type ℓ} → (Sample → List Sample → A) → List Sample → List A
@@ -147,7 +155,7 @@ inBand s = within (pos 50) (s .height) (pos 1000)
 -- does not look at the height.
 unfoldable pub condition : (List ℤ → Window → Bool) → List Window → List Sample → Bool
 condition met table [] = false
-condition met table (s ∷ before) = inBand s && anyOf (met (entries held (s ∷ before))) table
+condition met table (s ∷ before) = inBand s && anyOf (met (entries entry (s ∷ before))) table
 
 unfoldable pub redCondition : List Sample → Bool
 redCondition = condition metUp windows

@@ -63,11 +63,15 @@ metOf up s = someReached up windows (sumList s)
 unfoldable pub shearOf : State → Sample → ℤ
 shearOf t s = heldShear (cond (ltb 0 (t .core .seen)) (s .along -ℤ t .core .along) (pos 0)) (s .vertical) (s .airspeed)
 
+-- what the sample enters into the windows: its held shear
+unfoldable pub entryOf : State → Sample → ℤ
+entryOf t s = shearOf t s
+
 unfoldable pub windowsOf : State → Sample → ℤ → State
-windowsOf t s x =
+windowsOf t s entry =
     let c = t .core in
     record {
-      held = pushed (t .held) x;
+      held = pushed (t .held) entry;
       core = record { along = s .along; mode = c .mode; command = c .command; seen = c .seen; red = c .red; amber = c .amber; voice = c .voice; guidance = c .guidance };
     }
 
@@ -161,7 +165,7 @@ refusedOf n = record { refusal = n; alert = 0; voice = 0; guidance = 0; command 
 unfoldable pub acceptOf : State → Sample → Offered
 acceptOf t s =
     let x = shearOf t s in
-    let end = pitchOf (voiceOf (lampsOf (windowsOf t s x) (s .height)) s) s in
+    let end = pitchOf (voiceOf (lampsOf (windowsOf t s (entryOf t s)) (s .height)) s) s in
     record { answer = answerOf end x; state = end }
 
 -- ════ Refusal 8 ════
