@@ -129,7 +129,7 @@ guide-fits (s ∷ l) h =
     let comes = eqb (min (redFor (s ∷ l)) 60) 1 in
     let e = guide-next s l in
     record {
-      count = subst (λ (r : Guide). r .count ≤ 600) e (count-le (toGuide (guidance l)) s comes (g .count));
+      count = subst (λ (r : Guide). r .count ≤ 600) e (count-le (toGuide (guidance l)) s comes);
       low = subst (λ (r : Guide). neg 30000 ≤ℤ r .command) e (command-ge (toGuide (guidance l)) s comes (g .low) (inside-bounds (f .pitch-in) .0) (inside-bounds (f .stall-in) .0));
       high = subst (λ (r : Guide). r .command ≤ℤ pos 27000) e (command-le (toGuide (guidance l)) s comes);
     }
@@ -189,7 +189,7 @@ next-passing t s p h =
       red-le = at-most (lamp-le _ _) (lit≤ tt);
       amber-le = at-most (unless-le _ _) (at-most (lamp-le _ _) (lit≤ tt));
       voice-le = at-most (voice-le _ _) (lit≤ tt);
-      guidance-le = count-le _ s _ (p .guidance-le);
+      guidance-le = count-le _ s _;
       command-in = within-of (command-ge _ s _ (bounds (p .command-in) .0) (inside-bounds (f .pitch-in) .0) (inside-bounds (f .stall-in) .0)) (command-le _ s _);
       along-in = f .along-in;
       mode-in = f .mode-in;

@@ -188,8 +188,8 @@ unfolding guideNext noGuide startedOf continuedOf guided commandOf
 guide-follows g s comes = go (same (s .deselect) (pos 1)) g comes
   where
     later : (n m : ℕ) (c : ℤ) → m ≡ n
-        → cond (eqb m 600) noGuide (record { count = m + 1; command = c }) ≡ toGuide (cond (eqb n 600) off (on n c))
-    later n m c e = rw e (end (eqb n 600))
+        → cond (leb 600 m) noGuide (record { count = m + 1; command = c }) ≡ toGuide (cond (leb 600 n) off (on n c))
+    later n m c e = rw e (end (leb 600 n))
       where
         end : (t : Bool) → cond t noGuide (record { count = n + 1; command = c }) ≡ toGuide (cond t off (on n c))
         end true = refl

@@ -242,7 +242,7 @@ counted s n = cond (climbing s) (n + 1) 0
 unfoldable pub guided : Sample → Bool → Guidance → Guidance
 guided s comes off = cond comes (on (counted s 0) (smaller (s .pitch) (cap s))) off
 guided s comes (on n command) =
-    cond (eqb (counted s n) 600) off (on (counted s n) (smaller (towards command) (cap s)))
+    cond (leb 600 (counted s n)) off (on (counted s n) (smaller (towards command) (cap s)))
 
 -- "Guidance ends at a sample with deselect, which beats a start"
 unfoldable pub guidanceBy : (comes : List Sample → Bool) → List Sample → Guidance

@@ -127,7 +127,7 @@ startedOf s = record { count = counted s 0 + 1; command = smaller (s .pitch) (ca
 unfoldable pub continuedOf : Guide → Sample → Guide
 continuedOf g s =
     let n = counted s (g .count - 1) in
-    cond (eqb n 600) noGuide (record { count = n + 1; command = smaller (towards (g .command)) (cap s) })
+    cond (leb 600 n) noGuide (record { count = n + 1; command = smaller (towards (g .command)) (cap s) })
 
 unfoldable pub guideNext : Guide → Sample → Bool → Guide
 guideNext g s comes =
