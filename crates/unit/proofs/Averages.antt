@@ -4,9 +4,10 @@ use mathlib.Core.Bool.{Bool, true, false, _||_}
 use mathlib.Core.List.{List, [], _∷_, _++_, map, List·Memᴰ, List·Memᴰ·head, List·Memᴰ·tail}
 use mathlib.Core.Path.{_≡_, refl, sym, ap, _∙_, subst}
 use Prim.Native.Nat.{ℕ, zero, suc, _+_, _*_, _≤_, _<_}
-use native.Mathlib.Nat.{zero-mul, le-of-mul-le-mul-right, lt-of-mul-lt-mul-left, mul-comm}
+use native.Mathlib.Nat.{zero-mul, le-of-mul-le-mul-right, lt-of-mul-lt-mul-left, mul-comm, mul-pos}
 use native.Mathlib.Omega.{arith}
-use lib.Dec.{T, lit<}
+use borrow.Author.Tests.{ltb-true}
+use lib.Dec.{T, ltb, lit<}
 use lib.IntN.{ℤ, pos, natAbs, _+ℤ_, _-ℤ_, _*ℤ_}
 use lib.ListN.{length, take, replicate, length-append, length-replicate}
 use lib.Seq.{length-take-le}
@@ -15,10 +16,11 @@ use Rattle.rounding.specs.Fraction.{Fraction, _over_, _+F_, _≤F_, _<F_, zeroF
 use Rattle.rounding.specs.Rounding.{nearest, roundAway}
 use Rattle.rounding.proofs.Difference.{up, down, any, nat, +D, -D, *D, eqD, leD, ltD, ofLe, ofLt, ofSize}
 use Rattle.rounding.proofs.Sums.{sum-error, sum-positive}
-use Rattle.unit.specs.Choice.{anyOf}
-use Rattle.unit.specs.Claims.{tolerance, tableValue, averageOf, Reaches, Below}
+use Rattle.unit.specs.Choice.{anyOf, every}
+use Rattle.unit.specs.Claims.{tolerance, tableValue, averageOf, Reaches, Below, PositiveDivisors}
 use Rattle.unit.specs.Rules.{held, heldShear, exact, entry, exactEntry, entries, Window, lastOf, windowSum, average, limit, metUp}
 use Rattle.unit.specs.declared.Sample.{Sample}
+use Rattle.unit.proofs.RangeLaws.{every-member}
 
 -- ════ Scaled sums ════
 
@@ -138,6 +140,13 @@ module _ (l : List Sample) (ok : AllPositive (entries exactEntry l)) where
 
   divisor : (n : ℕ) → 0 < exact-sum n l .den
   divisor n = sum-positive (lastOf n zeroF (entries exactEntry l)) (last-positive n (entries exactEntry l) ok)
+
+  -- the fractions of a table whose windows are not empty have positive divisors
+  pub table-positive : (table : List Window) → every (λ w. ltb 0 (w .samples)) table ≡ true → (w : Window) → List·Memᴰ w table → PositiveDivisors l w
+  unfolding PositiveDivisors averageOf average tableValue tolerance
+  table-positive table e w m =
+      let n : 0 < w .samples = ltb-true 0 (w .samples) (every-member _ table w e m) in
+      (mul-pos (divisor (w .samples)) n, (lit< tt, (lit< tt, ok)))
 
   reached-met : (w : Window) → Reaches l w → metUp (entries entry l) w ≡ true
   unfolding Reaches tableValue tolerance averageOf average metUp limit

@@ -16,7 +16,7 @@ use Rattle.rounding.specs.Fraction.{AllPositive}
 use Rattle.rounding.proofs.Difference.{any, nat, leD, ofSize}
 use Rattle.rounding.proofs.Fits.{exact, minus, size-ge}
 use Rattle.unit.specs.Choice.{neg, within, same, anyOf, every}
-use Rattle.unit.specs.Claims.{stateAfter, answerTo, accepted, StatesPass, LeftPasses, shows, AnswersByRules, RefusedIsNothing, Reaches, Below, lastAlert, Demand3At, Demand3Lone}
+use Rattle.unit.specs.Claims.{stateAfter, answerTo, accepted, StatesPass, LeftPasses, shows, AnswersByRules, RefusedIsNothing, Reaches, Below, PositiveDivisors, lastAlert, Demand3At, Demand3Lone}
 use Rattle.unit.specs.Rules as rules
 use Rattle.unit.specs.Rules.{ranges, inside, refusal, change, exactShear, held, entry, exactEntry, entries, Window, windows, inBand, lastOf, metUp, condition, redCondition, litFor, redFor, redLit, amberFor, amberLit, redComesOn, voiceFor, guidance, Guidance, off, on, isOn, commandOf, guidanceBy}
 use Rattle.unit.specs.Steps.{freshState, shearOf, entryOf, pushed, windowsOf, lampsOf, voiceOf, guideOf, pitchOf, passes, refusedOf, refusalOf, offerOf, acceptOf, guideNext}
@@ -25,7 +25,7 @@ use Rattle.unit.specs.declared.Offered.{Offered}
 use Rattle.unit.specs.declared.Sample.{Sample}
 use Rattle.unit.specs.declared.State.{State}
 use Rattle.unit.specs.declared.pitch.Guide.{Guide}
-use Rattle.unit.proofs.Averages.{table-met, table-unmet}
+use Rattle.unit.proofs.Averages.{table-positive, table-met, table-unmet}
 use Rattle.unit.proofs.Choices.{cond-has}
 use Rattle.unit.proofs.Follow.{stateOf, toGuide, countOf, heldOf, lastAlong, lastMode, seenOf, accept-follows, guide-next, not-zero}
 use Rattle.unit.proofs.HeldShear.{shear-le}
@@ -343,20 +343,24 @@ module _ (before : List Sample) (s : Sample) (e : refusal s ≡ 0) where
   alert-is : answerTo s before .alert ≡ shows s (accepted before) .alert
   alert-is = ap (λ a. a .alert) (answer-is s before e)
 
-  positive : AllPositive (entries exactEntry (s ∷ accepted before))
-  positive = exact-positive (s ∷ accepted before) (e, accepted-all before)
+  entered : AllPositive (entries exactEntry (s ∷ accepted before))
+  entered = exact-positive (s ∷ accepted before) (e, accepted-all before)
+
+  positive : (w : Window) → List·Memᴰ w windows → PositiveDivisors (s ∷ accepted before) w
+  unfolding windows every
+  positive = table-positive (s ∷ accepted before) entered windows refl
 
   lit : (w : Window) → List·Memᴰ w windows → inBand s ≡ true → Reaches (s ∷ accepted before) w → eqb (answerTo s before .alert) 2 ≡ true
   lit w m b h =
       eq-eqb _ 2 (alert-is ∙ red-two s (accepted before) (lit-by s (accepted before)
-      (condition-in s (accepted before) ∙ rw (b, table-met (s ∷ accepted before) positive windows w m h))))
+      (condition-in s (accepted before) ∙ rw (b, table-met (s ∷ accepted before) entered windows w m h))))
 
   dark : eqb (lastAlert before) 2 ≡ false → (inBand s ≡ false) ⊎ ((w : Window) → List·Memᴰ w windows → Below (s ∷ accepted before) w)
       → eqb (answerTo s before .alert) 2 ≡ false
   dark d why =
       ne-eqb _ 2 (λ two. dark-not s (accepted before)
       (stays-dark s (accepted before) (two-red (accepted before) (λ k. eqb-false _ 2 d (last-is before ∙ k)))
-      (condition-in s (accepted before) ∙ ⊎-elim (λ b. rw b) (λ f. rw (table-unmet (s ∷ accepted before) positive windows f) (and-false (inBand s))) why))
+      (condition-in s (accepted before) ∙ ⊎-elim (λ b. rw b) (λ f. rw (table-unmet (s ∷ accepted before) entered windows f) (and-false (inBand s))) why))
       (sym alert-is ∙ two))
     where
       and-false : (b : Bool) → (b && false) ≡ false
@@ -372,7 +376,7 @@ module _ (before : List Sample) (s : Sample) (e : refusal s ≡ 0) where
 
 pub demand-3-lone : Demand3Lone
 unfolding Demand3Lone
-demand-3-lone before s e = record { lit = lit before s e; dark = dark before s e; capped = capped before s e }
+demand-3-lone before s e = record { positive = positive before s e; lit = lit before s e; dark = dark before s e; capped = capped before s e }
 
 -- ════ What is shown fits its bytes ════
 
