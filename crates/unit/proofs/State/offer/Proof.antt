@@ -6,7 +6,7 @@ use native.Mathlib.Omega.{arith}
 use borrow.Author.Needs.{needs}
 use borrow.Author.Tests.{eq-eqb, ne-eqb}
 use Rattle.unit.specs.Rules.{refusal}
-use Rattle.unit.specs.Steps.{passes, refusedOf, refusalOf, offerOf}
+use Rattle.unit.specs.Steps.{passes, refusedOf, refusalOf, offerOf, PlainPromise}
 use Rattle.unit.proofs.RangeLaws.{no-number, in-range, valid}
 use Rattle.unit.proofs.State.offer.Statement.{statement}
 use Rattle.unit.proofs.State.offer.Tie as tie
@@ -36,11 +36,11 @@ accept-requires c κs =
     (valid (k .args .self) (e .0), in-range (k .args .s) (e .1))
 
 returns : tie.Need-returns
-unfolding offerOf
+unfolding PlainPromise offerOf
 returns c = rw (← number (c .before .before), eq-eqb _ _ (c .before .if1 .taken)) (c .accept .ensures)
 
 returns-2 : tie.Need-returns-2
-unfolding offerOf refusedOf
+unfolding PlainPromise offerOf refusedOf
 returns-2 c = rw (← number (c .before), ne-eqb _ _ (c .if1 .left))
 
 pub offer-spec : {M : Type 1} → statement M
