@@ -15,7 +15,7 @@ use lib.Signed.{leZ, _≤ℤ_, leZ-yes}
 use Rattle.rounding.specs.Fraction.{AllPositive}
 use Rattle.rounding.proofs.Difference.{any, nat, leD, ofSize}
 use Rattle.rounding.proofs.Fits.{exact, minus, size-ge}
-use Rattle.unit.specs.Choice.{neg, within, same, anyOf, every}
+use Rattle.unit.specs.Choice.{neg, firstOf, within, same, anyOf, every}
 use Rattle.unit.specs.Claims.{stateAfter, answerTo, accepted, StatesPass, LeftPasses, shows, AnswersByRules, RefusedIsNothing, Reaches, Below, PositiveDivisors, lastAlert, Demand3At, Demand3Lone}
 use Rattle.unit.specs.Rules as rules
 use Rattle.unit.specs.Rules.{ranges, inside, refusal, change, exactShear, held, entry, exactEntry, entries, Window, windows, inBand, lastOf, metUp, condition, redCondition, litFor, redFor, redLit, amberFor, amberLit, redComesOn, voiceFor, guidance, Guidance, off, on, isOn, commandOf, guidanceBy}
@@ -26,11 +26,11 @@ use Rattle.unit.specs.declared.Sample.{Sample}
 use Rattle.unit.specs.declared.State.{State}
 use Rattle.unit.specs.declared.pitch.Guide.{Guide}
 use Rattle.unit.proofs.Averages.{table-positive, table-met, table-unmet}
-use Rattle.unit.proofs.Choices.{cond-has}
+use Rattle.unit.proofs.Choices.{cond-has, both-true, passed}
 use Rattle.unit.proofs.Follow.{stateOf, toGuide, countOf, heldOf, lastAlong, lastMode, seenOf, accept-follows, guide-next, not-zero}
 use Rattle.unit.proofs.HeldShear.{shear-le}
 use Rattle.unit.proofs.PitchLaws.{lamp-le, unless-le, voice-le, count-le, command-ge, command-le, command-cap}
-use Rattle.unit.proofs.RangeLaws.{bounds, inside-bounds, size-le, no-number, Fields, in-range-fields, in-range, Passing, passing, passes-of}
+use Rattle.unit.proofs.RangeLaws.{bounds, inside-bounds, size-le, Fields, in-range-fields, in-range, Passing, passing, passes-of}
 
 -- ════ Accepted samples ════
 
@@ -91,25 +91,17 @@ unfolding every entries
 entries-fit [] h = refl
 entries-fit (s ∷ l) h = rw (size-fits (entry s l) (entry-le s l h)) (entries-fit l (h .1))
 
--- both halves of a test
-halves : (a b : Bool) → (a && b) ≡ true → (a ≡ true) × (b ≡ true)
-halves true b e = (refl, e)
-halves false b e = let z : _≡_ {A = ℕ} 0 1 = cc in absurd (zero-one z)
-  where
-    zero-one : _≡_ {A = ℕ} 0 1 → ⊥
-    zero-one z = omega arith
-
 zeros-fit : (e : List ℤ) (n : ℕ) → every fits e ≡ true → every fits (e ++ replicate n (pos 0)) ≡ true
 unfolding every within
 zeros-fit [] zero h = refl
 zeros-fit [] (suc n) h = zeros-fit [] n h
-zeros-fit (x ∷ e) n h = let t = halves (fits x) (every fits e) h in rw (t .0) (zeros-fit e n (t .1))
+zeros-fit (x ∷ e) n h = let t = both-true (fits x) (every fits e) h in rw (t .0) (zeros-fit e n (t .1))
 
 take-fit : (n : ℕ) (e : List ℤ) → every fits e ≡ true → every fits (take n e) ≡ true
 unfolding every
 take-fit zero e h = refl
 take-fit (suc n) [] h = refl
-take-fit (suc n) (x ∷ e) h = let t = halves (fits x) (every fits e) h in rw (t .0) (take-fit n e (t .1))
+take-fit (suc n) (x ∷ e) h = let t = both-true (fits x) (every fits e) h in rw (t .0) (take-fit n e (t .1))
 
 held-fits : (l : List Sample) → AllAccepted l → every fits (heldOf l) ≡ true
 unfolding lastOf
@@ -198,8 +190,8 @@ next-passing t s p h =
 pub left-passes : LeftPasses
 unfolding LeftPasses offerOf refusalOf
 left-passes t s e =
-    let b = no-number (passes t) (refusal s) e in
-    rw (eq-eqb (cond (passes t) (refusal s) 8) 0 e) (passes-of (acceptOf t s .state) (next-passing t s (passing t (b .0)) (b .1)))
+    let b = passed (passes t) 7 (refusal s) e in
+    rw (eq-eqb (firstOf (passes t) 8 (refusal s)) 0 e) (passes-of (acceptOf t s .state) (next-passing t s (passing t (b .0)) (b .1)))
 
 -- ════ The claims on states and answers ════
 
@@ -343,24 +335,24 @@ module _ (before : List Sample) (s : Sample) (e : refusal s ≡ 0) where
   alert-is : answerTo s before .alert ≡ shows s (accepted before) .alert
   alert-is = ap (λ a. a .alert) (answer-is s before e)
 
-  entered : AllPositive (entries exactEntry (s ∷ accepted before))
-  entered = exact-positive (s ∷ accepted before) (e, accepted-all before)
+  positive-entries : AllPositive (entries exactEntry (s ∷ accepted before))
+  positive-entries = exact-positive (s ∷ accepted before) (e, accepted-all before)
 
   positive : (w : Window) → List·Memᴰ w windows → PositiveDivisors (s ∷ accepted before) w
   unfolding windows every
-  positive = table-positive (s ∷ accepted before) entered windows refl
+  positive = table-positive (s ∷ accepted before) positive-entries windows refl
 
   lit : (w : Window) → List·Memᴰ w windows → inBand s ≡ true → Reaches (s ∷ accepted before) w → eqb (answerTo s before .alert) 2 ≡ true
   lit w m b h =
       eq-eqb _ 2 (alert-is ∙ red-two s (accepted before) (lit-by s (accepted before)
-      (condition-in s (accepted before) ∙ rw (b, table-met (s ∷ accepted before) entered windows w m h))))
+      (condition-in s (accepted before) ∙ rw (b, table-met (s ∷ accepted before) positive-entries windows w m h))))
 
   dark : eqb (lastAlert before) 2 ≡ false → (inBand s ≡ false) ⊎ ((w : Window) → List·Memᴰ w windows → Below (s ∷ accepted before) w)
       → eqb (answerTo s before .alert) 2 ≡ false
   dark d why =
       ne-eqb _ 2 (λ two. dark-not s (accepted before)
       (stays-dark s (accepted before) (two-red (accepted before) (λ k. eqb-false _ 2 d (last-is before ∙ k)))
-      (condition-in s (accepted before) ∙ ⊎-elim (λ b. rw b) (λ f. rw (table-unmet (s ∷ accepted before) entered windows f) (and-false (inBand s))) why))
+      (condition-in s (accepted before) ∙ ⊎-elim (λ b. rw b) (λ f. rw (table-unmet (s ∷ accepted before) positive-entries windows f) (and-false (inBand s))) why))
       (sym alert-is ∙ two))
     where
       and-false : (b : Bool) → (b && false) ≡ false

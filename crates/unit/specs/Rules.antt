@@ -9,7 +9,7 @@ use lib.IntN.{ℤ, pos, negℤ, natAbs, _+ℤ_, _-ℤ_, _*ℤ_}
 use lib.ListN.{take, replicate}
 use lib.Signed.{leZ, ltZ}
 use Rattle.rounding.specs.Fraction.{Fraction, _over_, _-F_, zeroF, sumF, timesF, divideF, roundF, sumℤ}
-use Rattle.unit.specs.Choice.{neg, within, same, smaller, larger, anyOf}
+use Rattle.unit.specs.Choice.{neg, firstOf, within, same, smaller, larger, anyOf}
 use Rattle.unit.specs.declared.Sample.{Sample}
 
 -- ════ A sample ════
@@ -72,7 +72,7 @@ inRange table s =
 -- "Refusal numbers", 11 to 20: the number of the first field that is not accepted, the first field's being n; 0 where all are
 unfoldable pub firstBad : ℕ → List Bool → ℕ
 firstBad n [] = 0
-firstBad n (ok ∷ rest) = cond ok (firstBad (n + 1) rest) n
+firstBad n (ok ∷ rest) = firstOf ok n (firstBad (n + 1) rest)
 
 unfoldable pub refusal : Sample → ℕ
 refusal s = firstBad 11 (inRange ranges s)

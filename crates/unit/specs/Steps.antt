@@ -8,7 +8,7 @@ use lib.Dec.{ltb, leb, eqb}
 use lib.IntN.{ℤ, pos, negℤ, natAbs, _-ℤ_}
 use lib.ListN.{getD, take, replicate}
 use lib.Signed.{leZ, _≤ℤ_}
-use Rattle.unit.specs.Choice.{neg, within, same, smaller, every}
+use Rattle.unit.specs.Choice.{neg, firstOf, within, same, smaller, every}
 use Rattle.unit.specs.Rules.{ranges, inside, refusal, heldShear, Window, windows, windowSum, limit, cycle, cap, towards, counted}
 use Rattle.unit.specs.declared.Answer.{Answer}
 use Rattle.unit.specs.declared.Core.{Core}
@@ -187,7 +187,7 @@ passes t = heldFits (t .held) && countersFit (t .core) && lastFits (t .core)
 
 -- "A lone sample meets 8, then 11 to 20."
 unfoldable pub refusalOf : State → Sample → ℕ
-refusalOf t s = cond (passes t) (refusal s) 8
+refusalOf t s = firstOf (passes t) 8 (refusal s)
 
 -- "A refused sample is as if never offered."
 unfoldable pub offerOf : State → Sample → Offered

@@ -7,7 +7,7 @@ ghost use Rattle.unit.specs.Steps.{freshState, Valid, InRange, shearOf, 
 
 mod lamps;
 mod pitch;
-mod ranges;
+pub mod ranges;
 mod shear;
 mod voice;
 mod windows;
