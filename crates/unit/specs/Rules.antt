@@ -9,7 +9,7 @@ use lib.IntN.{ℤ, pos, negℤ, natAbs, _+ℤ_, _-ℤ_, _*ℤ_}
 use lib.ListN.{take, replicate}
 use lib.Signed.{leZ, ltZ}
 use Rattle.rounding.specs.Fraction.{Fraction, _over_, _-F_, zeroF, sumF, timesF, divideF, roundF, sumℤ}
-use Rattle.unit.specs.Choice.{neg, within, same, smaller, larger, anyOf}
+use Rattle.unit.specs.Choice.{neg, firstOf, within, same, smaller, larger, anyOf}
 use Rattle.unit.specs.declared.Sample.{Sample}
 
 -- ════ A sample ════
@@ -72,7 +72,7 @@ inRange table s =
 -- "Refusal numbers", 11 to 20: the number of the first field that is not accepted, the first field's being n; 0 where all are
 unfoldable pub firstBad : ℕ → List Bool → ℕ
 firstBad n [] = 0
-firstBad n (ok ∷ rest) = cond ok (firstBad (n + 1) rest) n
+firstBad n (ok ∷ rest) = firstOf ok n (firstBad (n + 1) rest)
 
 unfoldable pub refusal : Sample → ℕ
 refusal s = firstBad 11 (inRange ranges s)
@@ -92,12 +92,20 @@ exactShear c vertical airspeed = (c *ℤ pos 18520) over 1765197 -F vertical ove
 unfoldable pub heldShear : ℤ → ℤ → ℤ → ℤ
 heldShear c vertical airspeed = roundF (timesF 100000 (exactShear c vertical airspeed))
 
--- what a sample enters into the windows; and, for "The list in demand 3", into the exact averages
+-- a sample's held shear, which its answer shows; and its exact one
 unfoldable pub held : Sample → List Sample → ℤ
 held s before = heldShear (change s before) (s .vertical) (s .airspeed)
 
 unfoldable pub exact : Sample → List Sample → Fraction
 exact s before = exactShear (change s before) (s .vertical) (s .airspeed)
+
+-- what a sample enters into the windows: "A window is the last that many held shears, this sample's included"
+unfoldable pub entry : Sample → List Sample → ℤ
+entry s before = held s before
+
+-- and into the exact averages: "Each accepted sample enters its exact shear: the formula above, unrounded" (01, "The list in demand 3")
+unfoldable pub exactEntry : Sample → List Sample → Fraction
+exactEntry s before = exact s before
 
 -- what the samples of a list have entered, the newest first
 unfoldable pub entries {ℓ} : {A : Type ℓ} → (Sample → List Sample → A) → List Sample → List A
@@ -128,12 +136,16 @@ windowSum n l = sumℤ (lastOf n (pos 0) l)
 unfoldable pub average : ℕ → List Fraction → Fraction
 average n l = divideF (sumF (lastOf n zeroF l)) n
 
+-- "samples × value"
+unfoldable pub limit : Window → ℤ
+limit w = pos (w .samples * w .value)
+
 -- "met upward when its sum is at least samples × value, downward when the negated sum is"
 unfoldable pub metUp : List ℤ → Window → Bool
-metUp l w = leZ (pos (w .samples * w .value)) (windowSum (w .samples) l)
+metUp l w = leZ (limit w) (windowSum (w .samples) l)
 
 unfoldable pub metDown : List ℤ → Window → Bool
-metDown l w = leZ (pos (w .samples * w .value)) (negℤ (windowSum (w .samples) l))
+metDown l w = leZ (limit w) (negℤ (windowSum (w .samples) l))
 
 -- "height 50 to 1,000, both ends in"
 unfoldable pub inBand : Sample → Bool
@@ -141,15 +153,15 @@ inBand s = within (pos 50) (s .height) (pos 1000)
 
 -- ".. and some window met upward"; amber: "the same, downward". Both may hold at once. Outside the band the windows still fill: `entries`
 -- does not look at the height.
-unfoldable pub condition : (List ℤ → Window → Bool) → List Sample → Bool
-condition met [] = false
-condition met (s ∷ before) = inBand s && anyOf (met (entries held (s ∷ before))) windows
+unfoldable pub condition : (List ℤ → Window → Bool) → List Window → List Sample → Bool
+condition met table [] = false
+condition met table (s ∷ before) = inBand s && anyOf (met (entries entry (s ∷ before))) table
 
 unfoldable pub redCondition : List Sample → Bool
-redCondition = condition metUp
+redCondition = condition metUp windows
 
 unfoldable pub amberCondition : List Sample → Bool
-amberCondition = condition metDown
+amberCondition = condition metDown windows
 
 -- ════ Lamps and voice ════
 
@@ -230,7 +242,7 @@ counted s n = cond (climbing s) (n + 1) 0
 unfoldable pub guided : Sample → Bool → Guidance → Guidance
 guided s comes off = cond comes (on (counted s 0) (smaller (s .pitch) (cap s))) off
 guided s comes (on n command) =
-    cond (eqb (counted s n) 600) off (on (counted s n) (smaller (towards command) (cap s)))
+    cond (leb 600 (counted s n)) off (on (counted s n) (smaller (towards command) (cap s)))
 
 -- "Guidance ends at a sample with deselect, which beats a start"
 unfoldable pub guidanceBy : (comes : List Sample → Bool) → List Sample → Guidance

@@ -7,7 +7,7 @@ ghost use Rattle.unit.specs.Steps.{freshState, Valid, InRange, shearOf, 
 
 mod lamps;
 mod pitch;
-mod ranges;
+pub mod ranges;
 mod shear;
 mod voice;
 mod windows;
@@ -116,12 +116,12 @@ impl State {
         shear::held(0, v, a)
     }
 
-    // "Outside the band the windows still fill."
-    fn windows(mut self, s: Sample, x: i32) -> State
-        ensures { λ r. ⌜ r ≡ windowsOf self s x ⌝ }
+    // "Outside the band the windows still fill": by what the sample enters.
+    fn windows(mut self, s: Sample, entry: i32) -> State
+        ensures { λ r. ⌜ r ≡ windowsOf self s entry ⌝ }
     {
         let held = self.held;
-        let next = windows::pushed(held, x);
+        let next = windows::pushed(held, entry);
         let mut core = self.core;
         core.along = s.along;
         self.held = next;

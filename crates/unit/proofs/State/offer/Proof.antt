@@ -7,7 +7,8 @@ use borrow.Author.Needs.{needs}
 use borrow.Author.Tests.{eq-eqb, ne-eqb}
 use Rattle.unit.specs.Rules.{refusal}
 use Rattle.unit.specs.Steps.{passes, refusedOf, refusalOf, offerOf, PlainPromise}
-use Rattle.unit.proofs.RangeLaws.{no-number, in-range, valid}
+use Rattle.unit.proofs.Choices.{passed}
+use Rattle.unit.proofs.RangeLaws.{in-range, valid}
 use Rattle.unit.proofs.State.offer.Statement.{statement}
 use Rattle.unit.proofs.State.offer.Tie as tie
 
@@ -24,15 +25,11 @@ number : (c : tie.After-first-of) → c .first-of .result ≡ refusalOf (c .befo
 unfolding refusalOf
 number c = c .first-of .ensures ∙ rw (c .before .refusal .ensures, c .before .before .passes .ensures)
 
-fits : (c : tie.After-first-of) → c .first-of .result ≡ 0
-    → cond (passes (c .before .before .before .args .self)) (refusal (c .before .before .before .args .s)) 8 ≡ 0
-unfolding refusalOf
-fits c e = sym (number c) ∙ e
-
 accept-requires : tie.Need-accept-requires
+unfolding refusalOf
 accept-requires c κs =
     let k = c .before .before .before .before in
-    let e = no-number (passes (k .args .self)) (refusal (k .args .s)) (fits (c .before) (c .if1 .taken)) in
+    let e = passed (passes (k .args .self)) 7 (refusal (k .args .s)) (sym (number (c .before)) ∙ c .if1 .taken) in
     (valid (k .args .self) (e .0), in-range (k .args .s) (e .1))
 
 returns : tie.Need-returns
