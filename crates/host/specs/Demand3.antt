@@ -17,7 +17,7 @@ use lib.Dec.{eqb}
 use Rattle.host.specs.Lent.{LentPromise}
 use Rattle.runfile.specs.Claims.{Demand3Run}
 use Rattle.unit.specs.Claims.{accepted, shows, Demand3At}
-use Rattle.unit.specs.Rules.{refusal}
+use Rattle.unit.specs.Rules.{refusal, windows}
 use Rattle.unit.specs.Steps.{freshState, passes, refusedOf, PlainPromise}
 use Rattle.unit.specs.declared.Answer.{Answer}
 use Rattle.unit.specs.declared.Sample.{Sample}
@@ -73,6 +73,6 @@ pub record Demand3 : Type 0 where
   -- "this is so at each accepted one": red is alert 2 and the command is shown where guidance is 1, each in the call's own answer
   pub lone :
       (c : Call) (before : List Call) → Meets (c ∷ before) → refusal (c .sample) ≡ 0
-      → Demand3At (c .sample) (acceptedOf before) (eqb (alertShown before) 2) (eqb (c .answer .alert) 2) (eqb (c .answer .guidance) 1) (c .answer .command)
+      → Demand3At windows (c .sample) (acceptedOf before) (eqb (alertShown before) 2) (eqb (c .answer .alert) 2) (eqb (c .answer .guidance) 1) (c .answer .command)
   -- "The same holds at each record of every accepted run."
   pub run : Demand3Run

@@ -7,11 +7,14 @@ ghost use Rattle.host.specs.Exported.{convertedNumbers};
 ghost use Rattle.host.specs.Lent.{LentPromise};
 ghost use Rattle.format.specs.Float.{convertedOf};
 ghost use Rattle.format.specs.Header.{writeHeaderRefusal, writtenHeader};
+ghost use Rattle.format.specs.Reading.{readingOf};
 ghost use Rattle.format.specs.Refusal.{writeRecordRefusal, writtenRecord};
-ghost use Rattle.runfile.specs.Run.{outcomeOf, writtenAnswers};
+ghost use Rattle.runfile.specs.Run.{RunPromise, fileTestOf};
 ghost use Rattle.unit.specs.Steps.{freshState, PlainPromise};
 use format::Record;
 use format::float::Converted;
+use format::reading::Reading;
+use runfile::run::FileTest;
 use runfile::run::Outcome;
 use unit::Answer;
 use unit::Offered;
@@ -84,10 +87,26 @@ pub extern "C" fn windshear_write_record(record: Record, buf: &mut [u8]) -> u16
     format::records::write(record, buf)
 }
 
+// A file's own test: 1 to 6, then 11 to 20 with the first bad record's place; or the count of its records.
+#[no_mangle]
+pub extern "C" fn windshear_test_file(file: &[u8]) -> FileTest
+    ensures { λ r. ⌜ r ≡ fileTestOf (now (file .entry)) ⌝ }
+{
+    runfile::run::test_file(file)
+}
+
+// The record at a place, from 0, with its sample; or why there is none to read: 1 to 6, 11 to 20, or 0 where the file has no such place.
+#[no_mangle]
+pub extern "C" fn windshear_read_record(file: &[u8], place: usize) -> Reading
+    ensures { λ r. ⌜ r ≡ readingOf (now (file .entry)) place ⌝ }
+{
+    format::reading::record_at(file, place)
+}
+
 // A whole run: ten answer bytes a record; or the refusal with its place, and the buffer untouched.
 #[no_mangle]
 pub extern "C" fn windshear_run(file: &[u8], answers: &mut [u8]) -> Outcome
-    ensures { λ r. ⌜ (r ≡ outcomeOf (now (file .entry)) (length (now (answers .entry)))) × (now (answers .exit) ≡ writtenAnswers (now (file .entry)) (now (answers .entry))) ⌝ }
+    ensures { λ r. ⌜ RunPromise (now (file .entry)) (now (answers .entry)) r (now (answers .exit)) ⌝ }
 {
     runfile::run::run(file, answers)
 }
