@@ -1,6 +1,13 @@
-//! An independent reference of the windshear unit, and lists of samples and run files to try a unit with.
+//! An independent reference of the windshear unit, a plain and fast program beside it, lists of
+//! samples and run files to try a unit with, and the library under the reference's calls.
 
+pub mod bench;
+pub mod both;
 pub mod examples;
 pub mod files;
 pub mod gen;
+pub mod lend;
+pub mod library;
+pub mod plain;
+pub mod program;
 pub mod reference;

@@ -2,10 +2,7 @@
 
 use windshear::{Sample, State};
 use windshear_tests::gen::{all_lists, Rng};
-
-fn sent(s: &windshear_tests::reference::Sample) -> Sample {
-    Sample::from(s.fields())
-}
+use windshear_tests::library::sent;
 
 fn bytes(state: &State) -> Vec<u8> {
     let fields = |s: &State| {
@@ -55,4 +52,5 @@ fn forged_states_are_left_alone() {
     let before = bytes(&state);
     assert_eq!(state.offer_lent(Sample::default()).refusal, 8);
     assert_eq!(bytes(&state), before);
+    println!("compared 2 answers and states of a forged state");
 }

@@ -1,16 +1,13 @@
-//! Every worked figure of the scope paper, held against the reference; quoted names are its sections.
+//! Every worked figure of the scope paper, held against the reference and the library; quoted names are its sections.
 
+use windshear_tests::both::Both;
 use windshear_tests::gen::*;
-use windshear_tests::reference::*;
-
-fn play(list: &[Sample]) -> Vec<Answer> {
-    let mut unit = Unit::new();
-    list.iter().map(|s| unit.offer(s).unwrap()).collect()
-}
+use windshear_tests::library::cut;
+use windshear_tests::reference::{self, read_record, Answer, Record, Sample, RANGES, WINDOWS};
 
 /// The samples with this alert.
-fn lit(list: &[Sample], alert: u8) -> Vec<usize> {
-    let answers = play(list);
+fn lit(both: &Both, list: &[Sample], alert: u8) -> Vec<usize> {
+    let answers = both.play(list);
     (0..list.len())
         .filter(|&i| answers[i].alert == alert)
         .collect()
@@ -23,12 +20,13 @@ fn span(from: usize, to: usize) -> Vec<usize> {
 /// "A sample", "Refusal numbers": both ends in, the first number that fits.
 #[test]
 fn fields_refused() {
-    assert_eq!(refusal(&CALM), 0);
+    let both = Both::new();
+    assert_eq!(both.refusal(&CALM), 0);
     for (i, (low, high)) in RANGES.into_iter().enumerate() {
         let number = |value| {
             let mut fields = CALM.fields();
             fields[i] = value;
-            refusal(&Sample::from_fields(fields))
+            both.refusal(&Sample::from_fields(fields))
         };
         assert_eq!([low, high].map(number), [0; 2]);
         assert_eq!(
@@ -37,31 +35,35 @@ fn fields_refused() {
         );
         let mut many = CALM.fields();
         many[i..].fill(i32::MAX);
-        assert_eq!(refusal(&Sample::from_fields(many)), 11 + i as u8);
+        assert_eq!(both.refusal(&Sample::from_fields(many)), 11 + i as u8);
     }
+    both.done();
 }
 
 /// "Shear": the table, and the formula against its physical constants.
 #[test]
 fn shear_table() {
-    assert_eq!(shear(0, 0, 14_000), 0);
-    assert_eq!(shear(0, -1_000, 14_000), 7_143);
-    assert_eq!(shear(0, -3, 8_000), 38);
-    assert_eq!(shear(0, 3, 8_000), -38);
+    let both = Both::new();
+    assert_eq!(both.shear(0, 0, 14_000), 0);
+    assert_eq!(both.shear(0, -1_000, 14_000), 7_143);
+    assert_eq!(both.shear(0, -3, 8_000), 38);
+    assert_eq!(both.shear(0, 3, 8_000), -38);
     for airspeed in 6_000..=60_000 {
-        assert_eq!(shear(2_000, 0, airspeed), 2_098_349);
-        assert_eq!(shear(1_999, 0, airspeed), 2_097_300);
+        assert_eq!(both.shear(2_000, 0, airspeed), 2_098_349);
+        assert_eq!(both.shear(1_999, 0, airspeed), 2_097_300);
     }
     let per_step = 0.01 * 1_852.0 / 3_600.0 * 20.0 / 9.80665;
     assert!((per_step - 18_520.0 / 1_765_197.0_f64).abs() < 1e-15);
+    both.done();
 }
 
 /// "Shear": C is from the last accepted sample, 0 at the first.
 #[test]
 fn change_of_along_wind() {
-    let mut unit = Unit::new();
+    let both = Both::new();
+    let mut pair = both.fresh("changes");
     let mut offer = |along, mode| {
-        unit.offer(&Sample {
+        pair.offer(&Sample {
             along,
             mode,
             ..CALM
@@ -73,35 +75,44 @@ fn change_of_along_wind() {
     assert_eq!(offer(0, 2), Err(19));
     assert_eq!(offer(9_000, 1), Ok(0));
     assert_eq!(offer(7_000, 1), Ok(-2_098_349));
+    both.done();
 }
 
 /// "Slips": the whole fraction is rounded once, ties away from zero both ways.
 #[test]
 fn rounded_once() {
+    let both = Both::new();
     // Apart, 29,396,825 and 263 would give 29,396,562.
-    assert_eq!(shear(28_019, 53, 20_160), 29_396_563);
-    assert_eq!(shear(-28_019, -53, 20_160), -29_396_563);
+    assert_eq!(both.shear(28_019, 53, 20_160), 29_396_563);
+    assert_eq!(both.shear(-28_019, -53, 20_160), -29_396_563);
     for (change, vertical, airspeed) in [
         (1, 3, 8_000),
         (917, -2_001, 12_345),
         (40_000, -10_000, 6_000),
     ] {
         assert_eq!(
-            shear(change, vertical, airspeed),
-            -shear(-change, -vertical, airspeed)
+            both.shear(change, vertical, airspeed),
+            -both.shear(-change, -vertical, airspeed)
         );
     }
-    assert!(shear(40_000, -10_000, 6_000) <= 50_000_000);
+    assert!(both.shear(40_000, -10_000, 6_000) <= 50_000_000);
+    both.done();
 }
 
 /// The lengths of the windows met after a list, by their sums.
-fn windows_met(list: &[Sample], sign: i64) -> Vec<usize> {
-    let mut unit = Unit::new();
+fn windows_met(both: &Both, list: &[Sample], sign: i64) -> Vec<usize> {
+    let mut pair = both.fresh("windows");
     for s in list {
-        unit.offer(s).unwrap();
+        pair.offer(s).unwrap();
     }
     let is_met = |&(samples, value): &(usize, i64)| {
-        sign * unit.window_sum(samples) >= samples as i64 * value
+        let sum = pair.state.held[..samples]
+            .iter()
+            .copied()
+            .map(i64::from)
+            .sum();
+        assert_eq!(pair.unit.window_sum(samples), sum);
+        sign * sum >= samples as i64 * value
     };
     WINDOWS.iter().filter(|w| is_met(w)).map(|w| w.0).collect()
 }
@@ -110,6 +121,7 @@ fn windows_met(list: &[Sample], sign: i64) -> Vec<usize> {
 /// the plateau keeps the longer ones out.
 #[test]
 fn windows_alone() {
+    let both = Both::new();
     let (seconds, table) = (
         [10, 9, 8, 7, 6, 5],
         [0.1050, 0.1166, 0.1311, 0.1499, 0.1748, 0.2100],
@@ -130,87 +142,106 @@ fn windows_alone() {
         };
         for (sign, _) in WAYS {
             assert_eq!(
-                windows_met(&after_dip(value, sign)[..3 + samples], sign.into()),
+                windows_met(&both, &after_dip(value, sign)[..3 + samples], sign.into()),
                 [samples]
             );
-            assert!(windows_met(&after_dip(value, sign)[..2 + samples], sign.into()).is_empty());
             assert!(
-                windows_met(&after_dip(value - 1, sign)[..3 + samples], sign.into()).is_empty()
+                windows_met(&both, &after_dip(value, sign)[..2 + samples], sign.into()).is_empty()
             );
+            assert!(windows_met(
+                &both,
+                &after_dip(value - 1, sign)[..3 + samples],
+                sign.into()
+            )
+            .is_empty());
         }
         // Counted from the dip, the red lamp comes on at the window's last sample, or with the next window.
-        let first_red = |held| lit(&after_dip(held, 1), 2).first().map(|at| at - 2);
+        let first_red = |held| lit(&both, &after_dip(held, 1), 2).first().map(|at| at - 2);
         assert_eq!(first_red(value), Some(samples));
         assert_eq!(
             first_red(value - 1),
             (samples < 200).then_some(samples + 20)
         );
     }
+    both.done();
 }
 
 /// "The six windows": one step of 2,000 meets the 8 and 6 second windows, 1,999 none.
 #[test]
 fn one_step() {
+    let both = Both::new();
     for (sign, alert) in WAYS {
         let step = |size: i32| stepped(230, &[(5, sign * size)], |_, _| ());
-        assert_eq!(windows_met(&step(2_000)[..6], sign.into()), [160, 120]);
-        assert_eq!(lit(&step(2_000), alert), span(5, 164));
-        assert!(windows_met(&step(1_999)[..6], sign.into()).is_empty());
-        assert!(play(&step(1_999)).iter().all(|a| a.alert == 0));
+        assert_eq!(
+            windows_met(&both, &step(2_000)[..6], sign.into()),
+            [160, 120]
+        );
+        assert_eq!(lit(&both, &step(2_000), alert), span(5, 164));
+        assert!(windows_met(&both, &step(1_999)[..6], sign.into()).is_empty());
+        assert!(both.play(&step(1_999)).iter().all(|a| a.alert == 0));
     }
     assert_eq!((160 * 13_110, 120 * 17_480), (2_097_600, 2_097_600));
+    both.done();
 }
 
 /// "The six windows": the test rows of 000.
 #[test]
 fn test_rows() {
+    let both = Both::new();
     for (sign, alert) in WAYS {
         for (average, exposed, limits) in TEST_ROWS {
             let list = plateau(20, 0, exposed, (-sign * average / 10, 10_000));
-            let alerts: Vec<u8> = play(&list).iter().map(|a| a.alert).collect();
+            let alerts: Vec<u8> = both.play(&list).iter().map(|a| a.alert).collect();
             assert!(meets_row(&alerts, 20, alert, limits), "{average} {sign}");
         }
         // A constant shear at a table value alerts exactly when its window is full of it.
         for (samples, value) in WINDOWS {
             let (vertical, airspeed) = plateaus(value as i32)[0];
             let list = plateau(20, 0, samples as i32, (sign * vertical, airspeed));
-            assert_eq!(lit(&list, alert)[0], 20 + samples - 1);
+            assert_eq!(lit(&both, &list, alert)[0], 20 + samples - 1);
         }
     }
+    both.done();
 }
 
 /// "The six windows": the band has both ends in, and outside it the windows still fill.
 #[test]
 fn band() {
+    let both = Both::new();
     for (sign, alert) in WAYS {
         for (height, on) in [(49, false), (50, true), (1_000, true), (1_001, false)] {
-            let at_height = lit(&met(sign, 3, |_, s| s.height = height), alert);
+            let at_height = lit(&both, &met(sign, 3, |_, s| s.height = height), alert);
             assert_eq!(at_height, if on { vec![1, 2] } else { vec![] });
         }
         let entering = series(260, |i, s| {
             (s.vertical, s.airspeed) = (-sign * 1_050, 10_000);
             s.height = if i < 220 { 1_500 } else { 1_000 };
         });
-        assert_eq!(lit(&entering, alert), span(220, 259));
+        assert_eq!(lit(&both, &entering, alert), span(220, 259));
     }
+    both.done();
 }
 
 /// "The six windows": both conditions may hold at once; red then shows alone.
 #[test]
 fn both_conditions() {
+    let both = Both::new();
     let list = stepped(160, &[(5, -16_000), (135, 4_000)], |_, _| ());
-    assert_eq!(windows_met(&list[..136], 1), [120, 100]);
-    assert_eq!(windows_met(&list[..136], -1), [200, 180, 160, 140]);
-    assert_eq!(lit(&list, 1), span(5, 134));
-    assert_eq!(lit(&list, 2), span(135, 159));
+    assert_eq!(windows_met(&both, &list[..136], 1), [120, 100]);
+    assert_eq!(windows_met(&both, &list[..136], -1), [200, 180, 160, 140]);
+    assert_eq!(lit(&both, &list, 1), span(5, 134));
+    assert_eq!(lit(&both, &list, 2), span(135, 159));
+    both.done();
 }
 
 /// "Lamps and voice": at least 60 samples, counted from the coming-on.
 #[test]
 fn lamp_hold() {
+    let both = Both::new();
     for (sign, alert) in WAYS {
         let lit_with = |at: &[i32]| {
             lit(
+                &both,
                 &condition_at(sign, 200, |i| at.contains(&i), |_, _| ()),
                 alert,
             )
@@ -220,16 +251,18 @@ fn lamp_hold() {
         assert_eq!(lit_with(&[10, 70]), span(10, 70));
         assert_eq!(lit_with(&[10, 71]), [span(10, 69), span(71, 130)].concat());
     }
+    both.done();
 }
 
 /// "Lamps and voice": amber is dark while red is lit; after red it comes on only by its condition.
 #[test]
 fn amber_and_red() {
+    let both = Both::new();
     let lamps = |steps: &[(i32, i32)], in_band: &dyn Fn(i32) -> bool| {
         let list = stepped(150, steps, |i, s| {
             s.height = if in_band(i) { 400 } else { 1_001 }
         });
-        (lit(&list, 1), lit(&list, 2))
+        (lit(&both, &list, 1), lit(&both, &list, 2))
     };
     let amber_first = [(5, -2_000), (15, 12_000)];
     assert_eq!(
@@ -242,10 +275,11 @@ fn amber_and_red() {
     assert_eq!(at(&[5, 50]), (vec![], span(5, 64)));
     assert_eq!(at(&[5, 50, 65]), (span(65, 124), span(5, 64)));
     assert_eq!(lamps(&red_first, &|_| true), (span(65, 149), span(5, 64)));
+    both.done();
 }
 
-fn voices(list: &[Sample]) -> Vec<u8> {
-    play(list).iter().map(|a| a.voice).collect()
+fn voices(both: &Both, list: &[Sample]) -> Vec<u8> {
+    both.play(list).iter().map(|a| a.voice).collect()
 }
 
 /// Silence, then the three cycles, cut or filled with silence to a length.
@@ -258,41 +292,53 @@ fn cycles(before: usize, len: usize) -> Vec<u8> {
 /// "Lamps and voice": three cycles of 24, even if red goes dark, once until a mode change.
 #[test]
 fn voice() {
+    let both = Both::new();
     assert_eq!(
-        voices(&condition_at(1, 200, |i| i == 10, |_, _| ())),
+        voices(&both, &condition_at(1, 200, |i| i == 10, |_, _| ())),
         cycles(10, 200)
     );
     assert_eq!(
-        voices(&condition_at(1, 200, |i| i >= 10, |_, _| ())),
+        voices(&both, &condition_at(1, 200, |i| i >= 10, |_, _| ())),
         cycles(10, 200)
     );
     assert_eq!(
-        voices(&condition_at(1, 200, |i| i == 10 || i == 120, |_, _| ())),
+        voices(
+            &both,
+            &condition_at(1, 200, |i| i == 10 || i == 120, |_, _| ())
+        ),
         cycles(10, 200)
     );
     assert_eq!(
-        voices(&condition_at(-1, 200, |i| i >= 10, |_, _| ())),
+        voices(&both, &condition_at(-1, 200, |i| i >= 10, |_, _| ())),
         [0; 200]
     );
     // The first sample is no mode change, whatever its mode.
     for mode in [0, 1] {
         assert_eq!(
-            voices(&condition_at(1, 90, |i| i == 10, |_, s| s.mode = mode)),
+            voices(
+                &both,
+                &condition_at(1, 90, |i| i == 10, |_, s| s.mode = mode)
+            ),
             cycles(10, 90)
         );
     }
+    both.done();
 }
 
 /// "Lamps and voice": a mode change silences at once and frees for the next coming-on, that sample's included.
 #[test]
 fn voice_and_mode() {
+    let both = Both::new();
     let changed = |at: i32, again: i32| {
-        voices(&condition_at(
-            1,
-            200,
-            |i| i == 10 || i == again,
-            |i, s| s.mode = (i >= at).into(),
-        ))
+        voices(
+            &both,
+            &condition_at(
+                1,
+                200,
+                |i| i == 10 || i == again,
+                |i, s| s.mode = (i >= at).into(),
+            ),
+        )
     };
     for at in 11..=81 {
         let cut = cycles(10, at as usize);
@@ -316,73 +362,82 @@ fn voice_and_mode() {
     assert_eq!(changed(9, 10), cycles(10, 200));
     // A coming-on just before the change stays silent, and the change then finds no coming-on.
     assert_eq!(changed(120, 119), cycles(10, 200));
+    both.done();
 }
 
 /// Red from sample 1; the commands from there on, None while off.
-fn commands(n: i32, edit: impl Fn(i32, &mut Sample)) -> Vec<Option<i32>> {
-    commands_of(&met(1, n + 1, |i, s| edit(i - 1, s)))[1..].to_vec()
+fn commands(both: &Both, n: i32, edit: impl Fn(i32, &mut Sample)) -> Vec<Option<i32>> {
+    commands_of(both, &met(1, n + 1, |i, s| edit(i - 1, s)))[1..].to_vec()
 }
 
-fn commands_of(list: &[Sample]) -> Vec<Option<i32>> {
+fn commands_of(both: &Both, list: &[Sample]) -> Vec<Option<i32>> {
     let shown = |a: &Answer| {
         assert!(a.guidance || a.command == 0);
         a.guidance.then_some(a.command)
     };
-    play(list).iter().map(shown).collect()
+    both.play(list).iter().map(shown).collect()
 }
 
 /// "Escape pitch": the worked figures.
 #[test]
 fn pitch_figures() {
-    let from_5000 = commands(140, |_, _| ());
+    let both = Both::new();
+    let from_5000 = commands(&both, 140, |_, _| ());
     assert_eq!((from_5000[0], from_5000[1]), (Some(5_000), Some(5_075)));
     assert_eq!(
         (from_5000[133], from_5000[134], from_5000[139]),
         (Some(14_975), Some(15_000), Some(15_000))
     );
-    let from_30000 = commands(2, |_, s| (s.pitch, s.stall) = (30_000, 30_000));
+    let from_30000 = commands(&both, 2, |_, s| (s.pitch, s.stall) = (30_000, 30_000));
     assert_eq!(from_30000, [Some(27_000), Some(26_925)]);
-    let cut = commands(4, |i, s| {
+    let cut = commands(&both, 4, |i, s| {
         (s.pitch, s.stall) = (15_000, if i == 1 { 12_000 } else { 20_000 })
     });
     assert_eq!(cut, [15_000, 12_000, 12_075, 12_150].map(Some));
     // The cap is the smaller of the two, negative ones too, and is tested at every sample.
-    let low = commands(3, |i, s| {
+    let low = commands(&both, 3, |i, s| {
         s.stall = [4_000, -10_000, 30_000][i.max(0) as usize]
     });
     assert_eq!(low, [4_000, -10_000, -9_925].map(Some));
-    let below = commands(2, |_, s| (s.pitch, s.stall) = (-30_000, -10_000));
+    let below = commands(&both, 2, |_, s| (s.pitch, s.stall) = (-30_000, -10_000));
     assert_eq!(below, [-30_000, -29_925].map(Some));
-    let near = commands(2, |_, s| s.pitch = 15_074);
+    let near = commands(&both, 2, |_, s| s.pitch = 15_074);
     assert_eq!(near, [15_074, 15_000].map(Some));
+    both.done();
 }
 
 /// "Escape pitch": deselect beats a start and ends; only a coming-on starts.
 #[test]
 fn deselect() {
-    let at = |offset| commands(100, move |i, s| s.deselect = (i == offset).into());
+    let both = Both::new();
+    let at = |offset| commands(&both, 100, move |i, s| s.deselect = (i == offset).into());
     assert!(at(0).iter().all(Option::is_none));
     assert_eq!(at(-1), at(1_000));
     assert_eq!(at(3)[..3], at(1_000)[..3]);
     assert!(at(3)[3..].iter().all(Option::is_none));
-    let again = commands_of(&condition_at(
-        1,
-        120,
-        |i| i == 10 || i == 80,
-        |i, s| s.deselect = (i == 20).into(),
-    ));
+    let again = commands_of(
+        &both,
+        &condition_at(
+            1,
+            120,
+            |i| i == 10 || i == 80,
+            |i, s| s.deselect = (i == 20).into(),
+        ),
+    );
     assert_eq!(again.iter().filter(|c| c.is_some()).count(), 10 + 40);
     assert_eq!(
         (again[19], again[20], again[79], again[80]),
         (Some(5_675), None, None, Some(5_000))
     );
+    both.done();
 }
 
 /// "Escape pitch": the 600th counting sample in a row, the starting one the first that can count.
 #[test]
 fn climb_away() {
+    let both = Both::new();
     let shown = |edit: &dyn Fn(i32, &mut Sample)| {
-        let climbing = commands(1_300, |i, s| {
+        let climbing = commands(&both, 1_300, |i, s| {
             (s.climb, s.airspeed) = (1, 13_001);
             edit(i, s);
         });
@@ -418,21 +473,26 @@ fn climb_away() {
     );
     assert_eq!(shown(&|_, s| s.airspeed = 13_000), 1_300);
     assert_eq!(shown(&|_, s| s.climb = 0), 1_300);
+    both.done();
 }
 
 /// "Escape pitch": an end beats a coming-on; a coming-on while guidance runs changes nothing in it.
 #[test]
 fn coming_on_and_end() {
+    let both = Both::new();
     let with = |again: i32| {
-        commands_of(&condition_at(
-            1,
-            1_400,
-            |i| i == 10 || i == again,
-            |i, s| {
-                s.climb = 1;
-                s.pitch = if i == 10 { 5_000 } else { 1_000 };
-            },
-        ))
+        commands_of(
+            &both,
+            &condition_at(
+                1,
+                1_400,
+                |i| i == 10 || i == again,
+                |i, s| {
+                    s.climb = 1;
+                    s.pitch = if i == 10 { 5_000 } else { 1_000 };
+                },
+            ),
+        )
     };
     let alone = with(10);
     assert_eq!(alone.iter().position(Option::is_some), Some(10));
@@ -445,16 +505,18 @@ fn coming_on_and_end() {
         (None, Some(1_000), Some(1_075))
     );
     assert_eq!(next[610..].iter().filter(|c| c.is_some()).count(), 599);
+    both.done();
 }
 
 /// "Refusal numbers": a refused sample is as if never offered.
 #[test]
 fn refused_changes_nothing() {
-    let mut unit = Unit::new();
+    let both = Both::new();
+    let mut pair = both.fresh("refused");
     for s in &met(1, 30, |_, _| ()) {
-        let before = format!("{unit:?}");
+        let before = (format!("{:?}", pair.unit), pair.state);
         assert_eq!(
-            unit.offer(&Sample {
+            pair.offer(&Sample {
                 along: 20_000,
                 mode: 0,
                 deselect: 2,
@@ -462,15 +524,18 @@ fn refused_changes_nothing() {
             }),
             Err(20)
         );
-        assert_eq!(format!("{unit:?}"), before);
-        unit.offer(s).unwrap();
+        assert_eq!((format!("{:?}", pair.unit), pair.state), before);
+        pair.offer(s).unwrap();
     }
+    both.done();
 }
 
-/// The accessors, which count without end.
+/// The reference's accessors, which count without end; the library's counters stop, and each offer compares them there.
 #[test]
 fn accessors() {
-    let mut unit = Unit::new();
+    let both = Both::new();
+    let mut pair = both.fresh("counted");
+    let unit = &pair.unit;
     assert_eq!(
         (unit.last_along(), unit.last_mode(), unit.guidance_counted()),
         (None, None, None)
@@ -489,7 +554,8 @@ fn accessors() {
         .iter()
         .enumerate()
     {
-        unit.offer(s).unwrap();
+        pair.offer(s).unwrap();
+        let unit = &pair.unit;
         let i = i as u64;
         assert_eq!(
             (unit.red_lit_for(), unit.voice_since(), unit.amber_lit_for()),
@@ -500,6 +566,7 @@ fn accessors() {
             (i > 0).then_some((i + 1).saturating_sub(500))
         );
     }
+    let unit = &pair.unit;
     assert_eq!(
         (unit.last_along(), unit.last_mode()),
         (Some(2_000), Some(1))
@@ -508,17 +575,20 @@ fn accessors() {
         unit.last_held(1_001)[998..],
         [2_098_349 + 71_429, 71_429, 0]
     );
-    unit.offer(&Sample { mode: 0, ..CALM }).unwrap();
+    pair.offer(&Sample { mode: 0, ..CALM }).unwrap();
+    let unit = &pair.unit;
     assert_eq!(
         (unit.voice_since(), unit.red_lit_for(), unit.last_mode()),
         (0, 1_000, Some(0))
     );
+    both.done();
 }
 
 /// "The run file": floats to hundredths.
 #[test]
 fn floats() {
-    let of = |knots: f32| hundredths(knots.to_bits());
+    let both = Both::new();
+    let of = |knots: f32| both.hundredths(knots.to_bits());
     assert_eq!((of(0.125), of(-0.125)), (Some(13), Some(-13)));
     assert_eq!(
         (of(-0.0), of(f32::from_bits(1)), of(-f32::from_bits(1))),
@@ -537,20 +607,25 @@ fn floats() {
         (of(f32::NAN), of(f32::INFINITY), of(f32::NEG_INFINITY)),
         (None, None, None)
     );
-    assert_eq!(of(16_777_216.0), Some(1_677_721_600));
-    assert_eq!(of(-(2.0_f32.powi(119))), Some(-(100 << 119)));
-    assert_eq!(
-        (of(f32::MAX), of(f32::MIN)),
-        (Some(i128::MAX), Some(-i128::MAX))
-    );
+    // Beyond the library's cut only the reference has them whole.
+    for (knots, whole) in [
+        (16_777_216.0, 1_677_721_600),
+        (-(2.0_f32.powi(119)), -(100 << 119)),
+        (f32::MAX, i128::MAX),
+        (f32::MIN, -i128::MAX),
+    ] {
+        assert_eq!(reference::hundredths(knots.to_bits()), Some(whole));
+        assert_eq!(of(knots), Some(cut(whole)));
+    }
     // Against exact arithmetic in f64, where 100 × the float has at most 31 bits.
     for bits in (0..0x4c00_0000_u32).step_by(9_973) {
         let exact = (f64::from(f32::from_bits(bits)) * 100.0).round() as i128;
-        assert_eq!(
-            (hundredths(bits), hundredths(bits | 1 << 31)),
-            (Some(exact), Some(-exact))
-        );
+        for (bits, exact) in [(bits, exact), (bits | 1 << 31, -exact)] {
+            assert_eq!(reference::hundredths(bits), Some(exact));
+            assert_eq!(both.hundredths(bits), Some(cut(exact)));
+        }
     }
+    both.done();
 }
 
 /// "The listing": the records of its example.
@@ -572,10 +647,10 @@ fn example() -> Vec<Record> {
         .to_vec()
 }
 
-fn file(records: &[Record]) -> Vec<u8> {
-    let mut bytes = write_header(records.len() as u32, 8).unwrap().to_vec();
+fn file(both: &Both, records: &[Record]) -> Vec<u8> {
+    let mut bytes = both.write_header(records.len() as u32, 8).unwrap().to_vec();
     for record in records {
-        bytes.extend(write_record(record, 24).unwrap());
+        bytes.extend(both.write_record(record, 24).unwrap());
     }
     bytes
 }
@@ -583,8 +658,9 @@ fn file(records: &[Record]) -> Vec<u8> {
 /// "The run file": the bytes of a header and a record, floats kept as given.
 #[test]
 fn written_bytes() {
+    let both = Both::new();
     assert_eq!(
-        write_header(0x0a21, 8),
+        both.write_header(0x0a21, 8),
         Ok([b'W', b'S', b'R', 1, 0, 0, 0x21, 0x0a])
     );
     let record = Record {
@@ -593,7 +669,7 @@ fn written_bytes() {
         deselect: 1,
         ..example()[2]
     };
-    let bytes = write_record(&record, 24).unwrap();
+    let bytes = both.write_record(&record, 24).unwrap();
     let expected = [
         0, 0, 0, 0x80, 0, 0, 0x20, 0xc1, 0, 0, 0x0c, 0x43, // -0, -10 and 140 kt
         0x90, 0x01, 0x88, 0x13, 0x20, 0x4e, 0x44, 0xfd, 0x10,
@@ -601,33 +677,44 @@ fn written_bytes() {
         1, 1,
     ];
     assert_eq!(bytes, expected);
+    let sample = Sample {
+        vertical: -1_000,
+        deselect: 1,
+        ..CALM
+    };
+    // Only the reference gives a record's fields and its sample; a run of the one record is answered as the sample is.
     assert_eq!(read_record(&bytes), record);
+    assert_eq!(record.sample(), Ok(sample));
+    assert_eq!(both.play(&[sample])[0].shear, 7_143);
     assert_eq!(
-        record.sample(),
-        Ok(Sample {
-            vertical: -1_000,
-            deselect: 1,
-            ..CALM
-        })
+        both.run(&file(&both, &[record]), 10),
+        Ok(vec![0, 0, 0, 0, 0xe7, 0x1b, 0, 0, 0, 0])
     );
+    both.done();
 }
 
 /// "The run file": 10 bytes per record.
 #[test]
 fn answer_bytes() {
+    let both = Both::new();
     let expected = [
         [0, 0, 0, 0, 0, 0, 0, 0, 0, 0],
         [2, 1, 0x88, 0x13, 0xad, 0x04, 0x20, 0x00, 1, 0],
         [2, 1, 0xd3, 0x13, 0xe7, 0x1b, 0x00, 0x00, 1, 0],
     ];
-    assert_eq!(run(&file(&example()), 30), Ok(expected.concat()));
-    assert_eq!(run(&file(&[]), 0), Ok(vec![]));
+    assert_eq!(
+        both.run(&file(&both, &example()), 30),
+        Ok(expected.concat())
+    );
+    assert_eq!(both.run(&file(&both, &[]), 0), Ok(vec![]));
+    both.done();
 }
 
 /// "Refusal numbers": 1 to 7 in order, each hiding the later ones.
 #[test]
 fn run_refusals() {
-    let good = file(&example());
+    let both = Both::new();
+    let good = file(&both, &example());
     let mut bad = good.clone();
     bad.push(0);
     bad[..8].copy_from_slice(&[b'W', b's', b'R', 1, 1, 1, 0x29, 0x0a]);
@@ -636,7 +723,7 @@ fn run_refusals() {
         for &(at, byte) in mend {
             bad[at] = byte;
         }
-        run(&bad, 31)
+        both.run(&bad, 31)
     };
     assert_eq!(refused(&[]), Err((2, 0)));
     assert_eq!(refused(&[(1, b'S')]), Err((3, 0)));
@@ -645,23 +732,26 @@ fn run_refusals() {
     assert_eq!(refused(&[(6, 0x28)]), Err((6, 0)));
     assert_eq!(refused(&[(6, 3), (7, 0)]), Err((6, 0)));
     bad.pop();
-    assert_eq!(run(&bad, 31), Err((7, 0)));
-    assert_eq!(run(&bad, 30), Err((11, 0)));
+    assert_eq!(both.run(&bad, 31), Err((7, 0)));
+    assert_eq!(both.run(&bad, 30), Err((11, 0)));
     for len in 0..8 {
-        assert_eq!(run(&[b'x'; 8][..len], 1), Err((1, 0)));
+        assert_eq!(both.run(&[b'x'; 8][..len], 1), Err((1, 0)));
     }
-    assert_eq!(run(&good[..good.len() - 1], 30), Err((6, 0)));
+    assert_eq!(both.run(&good[..good.len() - 1], 30), Err((6, 0)));
     let most = vec![example()[0]; 2_600];
-    assert_eq!(file(&most).len(), 62_408);
+    assert_eq!(file(&both, &most).len(), 62_408);
     assert_eq!(
-        run(&file(&most), 26_000).map(|bytes| bytes.len()),
+        both.run(&file(&both, &most), 26_000)
+            .map(|bytes| bytes.len()),
         Ok(26_000)
     );
+    both.done();
 }
 
 /// "Refusal numbers": the first bad record's place, and the first number that fits it.
 #[test]
 fn record_refusals() {
+    let both = Both::new();
     let good = example()[0];
     let nan = f32::NAN.to_bits();
     let cases = [
@@ -755,62 +845,69 @@ fn record_refusals() {
             20,
         ),
     ];
-    assert!(Record {
+    let at_end = Record {
         along: 200_f32.to_bits(),
         ..good
-    }
-    .sample()
-    .is_ok());
+    };
+    assert!(both.write_record(&at_end, 24).is_ok());
     let deselect_bad = [[0; 23].as_slice(), &[9]].concat();
     for (record, number) in cases {
-        assert_eq!(record.sample(), Err(number));
         assert_eq!(
-            (write_record(&record, 24), write_record(&record, 23)),
+            (
+                both.write_record(&record, 24),
+                both.write_record(&record, 23)
+            ),
             (Err(number), Err(7))
         );
-        let mut bytes = file(&[good; 4]);
+        let mut bytes = file(&both, &[good; 4]);
         // The record's own bytes at place 2, and a worse one after it.
         bytes[8 + 48..][..24].copy_from_slice(&record.bytes());
         bytes[8 + 72..].copy_from_slice(&deselect_bad);
-        assert_eq!(run(&bytes, 40), Err((number, 2)));
-        assert_eq!(listing(&bytes), format!("refused {number} at 2\n"));
+        assert_eq!(both.run(&bytes, 40), Err((number, 2)));
+        assert_eq!(both.listing(&bytes), format!("refused {number} at 2\n"));
     }
+    both.done();
 }
 
 /// "Refusal numbers": writing a header tests 5, then 7.
 #[test]
 fn header_refusals() {
+    let both = Both::new();
     assert_eq!(
-        (write_header(2_601, 9), write_header(u32::MAX, 8)),
+        (both.write_header(2_601, 9), both.write_header(u32::MAX, 8)),
         (Err(5), Err(5))
     );
     assert_eq!(
-        (write_header(2_600, 7), write_header(0, 9)),
+        (both.write_header(2_600, 7), both.write_header(0, 9)),
         (Err(7), Err(7))
     );
-    assert!(write_header(2_600, 8).is_ok());
+    assert!(both.write_header(2_600, 8).is_ok());
+    both.done();
 }
 
 /// "The listing": its example, a refusal, an empty run, and input that is too long.
 #[test]
 fn listings() {
+    let both = Both::new();
     let example_text = "sample shear alert voice command\n\
         0 0 none 0 off\n1 2098349 red 1 5000\n2 7143 red 1 5075\nred 1 amber 0\n";
-    assert_eq!(listing(&file(&example())), example_text);
+    assert_eq!(both.listing(&file(&both, &example())), example_text);
     assert_eq!(
-        listing(&file(&[])),
+        both.listing(&file(&both, &[])),
         "sample shear alert voice command\nred 0 amber 0\n"
     );
-    assert_eq!(listing(b""), "refused 1 at 0\n");
-    let mut long = file(&vec![example()[0]; 2_600]);
-    assert_eq!(listing(&long).lines().count(), 2_602);
+    assert_eq!(both.listing(b""), "refused 1 at 0\n");
+    let mut long = file(&both, &vec![example()[0]; 2_600]);
+    assert_eq!(both.listing(&long).lines().count(), 2_602);
     long.extend([0; 100]);
-    assert_eq!(listing(&long), "refused 6 at 0\n");
+    assert_eq!(both.listing(&long), "refused 6 at 0\n");
+    both.done();
 }
 
 /// "The listing": totals count comings-on, amber's after red as well.
 #[test]
 fn listing_totals() {
+    let both = Both::new();
     // Amber from 5, red from 15 for 60 samples, amber again from 75 by the larger step at 20.
     let list = stepped(400, &[(5, -2_000), (15, 12_000), (20, -25_000)], |_, _| ());
     let record = |s: &Sample| Record {
@@ -818,6 +915,7 @@ fn listing_totals() {
         ..example()[0]
     };
     let records: Vec<_> = list.iter().map(record).collect();
-    let text = listing(&file(&records));
+    let text = both.listing(&file(&both, &records));
     assert_eq!(text.lines().last(), Some("red 1 amber 2"));
+    both.done();
 }

@@ -1,153 +1,85 @@
 //! The proved run files beside the reference: floats, writers and whole runs, of good and damaged bytes.
 
 use std::collections::BTreeMap;
-use std::fmt::Debug;
 use std::ops::RangeInclusive;
 use windshear::Outcome;
+use windshear_tests::both::Both;
 use windshear_tests::examples::examples;
-use windshear_tests::files::{file_of, file_of_samples, record_of};
+use windshear_tests::files::*;
 use windshear_tests::gen::*;
+use windshear_tests::library::{cut, refused};
 use windshear_tests::reference::{self, read_record, Record, RANGES};
 
-/// As the library cuts hundredths, at a million either way.
-fn cut(hundredths: i128) -> i32 {
-    hundredths.clamp(-1_000_000, 1_000_000) as i32
-}
-
-/// A pattern's hundredths, the same on both sides.
-fn convert(bits: u32) -> Option<i32> {
-    let found = windshear::hundredths(bits);
-    assert_eq!(found, reference::hundredths(bits).map(cut), "{bits:#010x}");
-    found
-}
-
-/// All signs and exponents, with mantissas beside every power of two and random ones; more where
-/// the hundredths are neither all 0 nor all cut.
+/// All signs and exponents.
 #[test]
 fn hundredths_of_every_sign_and_exponent() {
-    let mut rng = Rng::new(50);
-    let (mut compared, mut missing) = (0u64, 0u64);
-    for top in 0..512 {
-        let turning = (0..=23).flat_map(|k| [-1, 0, 1].map(|beside| (1 << k) + beside));
-        let all_alike = !(118..=141).contains(&(top % 256));
-        let random = (0..if all_alike { 8_000 } else { 100_000 }).map(|_| rng.draw() as i32);
-        for mantissa in turning.chain(random) {
-            let found = convert(top << 23 | mantissa as u32 & 0x7f_ffff);
-            missing += u64::from(found.is_none());
-            compared += 1;
-        }
-    }
-    println!("compared {compared} patterns' hundredths, {missing} not finite");
-    assert!(compared > 8_000_000 && missing == 2 * 8_072);
+    let (mut rng, both) = (Rng::new(50), Both::new());
+    let missing = float_patterns(&mut rng).filter(|&bits| both.hundredths(bits).is_none());
+    assert_eq!(missing.count(), 2 * 8_072);
+    both.done();
+    assert!(both.compared() > 8_000_000);
 }
 
 /// Every pattern that there is.
 #[test]
 #[ignore = "takes a minute"]
 fn hundredths_of_every_pattern() {
+    let both = Both::new();
     for bits in 0..=u32::MAX {
-        convert(bits);
+        both.hundredths(bits);
     }
-    println!("compared {} patterns' hundredths", 1_u64 << 32);
+    both.done();
 }
 
 /// Only odd eighths of a knot are ties; all of them to beyond the cut, and their neighbours.
 #[test]
 fn ties_go_away_from_zero() {
-    let mut compared = 0u64;
+    let both = Both::new();
     for eighths in (1..=100_001).step_by(2) {
         for sign in [1, -1] {
             let bits = ((sign * eighths) as f32 / 8.0).to_bits();
             let away = (25 * eighths + 1) / 2;
             let signed = |size: i32| Some(cut((sign * size).into()));
-            assert_eq!(convert(bits), signed(away));
-            assert_eq!(convert(bits + 1), signed(away));
-            assert_eq!(convert(bits - 1), signed(away - 1));
-            compared += 3;
+            assert_eq!(both.hundredths(bits), signed(away));
+            assert_eq!(both.hundredths(bits + 1), signed(away));
+            assert_eq!(both.hundredths(bits - 1), signed(away - 1));
         }
     }
-    println!("compared {compared} ties and neighbours");
+    both.done();
 }
 
-/// What stays around a lent buffer.
-const MARGIN: usize = 32;
-
-/// Lends the middle of a patterned buffer. The answer is the reference's, and so is every byte:
-/// those written, or all as before. Gives back the answer and what is in the lent part.
-fn lend<T: Copy + Debug + Default + PartialEq>(
-    len: usize,
-    call: impl FnOnce(&mut [u8]) -> T,
-    want: Result<impl AsRef<[u8]>, T>,
-) -> (T, Vec<u8>) {
-    let patterned = (0..len + 2 * MARGIN).map(|i| (167 * i + 59 * len + 11) as u8);
-    let mut expected: Vec<u8> = patterned.collect();
-    let mut buffer = expected.clone();
-    let answer = call(&mut buffer[MARGIN..][..len]);
-    if let Ok(bytes) = &want {
-        expected[MARGIN..][..len].copy_from_slice(bytes.as_ref());
-    }
-    assert_eq!(answer, want.err().unwrap_or_default());
-    assert!(
-        buffer == expected,
-        "{answer:?}: other bytes in a buffer of {len}"
-    );
-    (answer, buffer[MARGIN..][..len].to_vec())
-}
-
-fn refused(number: impl Into<u16>, place: usize) -> Outcome {
-    Outcome {
-        refusal: number.into(),
-        place: place as u16,
-    }
-}
-
-/// How much has been compared: answers of the functions, and buffers or their parts; and how often each number came.
+/// Calls of the reference and the library, and how often each number came. What is refused has no bytes.
 #[derive(Default)]
 struct Tally {
-    calls: u64,
-    parts: u64,
+    both: Both,
     came: BTreeMap<u16, u64>,
 }
 
 impl Tally {
-    fn count(&mut self, number: u16, parts: usize) {
-        self.calls += 1;
-        self.parts += parts as u64;
+    fn count(&mut self, number: u16) {
         *self.came.entry(number).or_default() += 1;
     }
 
     fn header(&mut self, count: u32, len: usize) -> Vec<u8> {
-        let want = reference::write_header(count, len).map_err(u16::from);
-        let (number, bytes) = lend(len, |buf| windshear::write_header(count, buf), want);
-        self.count(number, 1);
-        bytes
+        let written = self.both.write_header(count, len);
+        self.count(written.err().unwrap_or(0).into());
+        written.map_or(Vec::new(), Vec::from)
     }
 
     fn record(&mut self, r: &Record, len: usize) -> (u16, Vec<u8>) {
-        let sent = windshear::Record {
-            along: f32::from_bits(r.along),
-            vertical: f32::from_bits(r.vertical),
-            airspeed: f32::from_bits(r.airspeed),
-            height: r.height,
-            pitch: r.pitch,
-            stall: r.stall,
-            climb: r.climb,
-            vs1: r.vs1,
-            mode: r.mode,
-            deselect: r.deselect,
-        };
-        let want = reference::write_record(r, len).map_err(u16::from);
-        let (number, bytes) = lend(len, |buf| windshear::write_record(&sent, buf), want);
-        self.count(number, 1);
-        (number, bytes)
+        let written = self.both.write_record(r, len);
+        let number = written.err().unwrap_or(0).into();
+        self.count(number);
+        (number, written.map_or(Vec::new(), Vec::from))
     }
 
-    /// One run with an answer buffer so long; a part is an answer of ten bytes, or all that was untouched.
+    /// One run with an answer buffer so long.
     fn run(&mut self, file: &[u8], len: usize) -> (Outcome, Vec<u8>) {
-        let want = reference::run(file, len).map_err(|(number, at)| refused(number, at as usize));
-        let (outcome, bytes) = lend(len, |answers| windshear::run(file, answers), want);
-        let parts = if outcome.refusal == 0 { len / 10 } else { 1 };
-        self.count(outcome.refusal, parts);
+        let (outcome, bytes) = match self.both.run(file, len) {
+            Ok(bytes) => (Outcome::default(), bytes),
+            Err((number, place)) => (refused(number, place as usize), Vec::new()),
+        };
+        self.count(outcome.refusal);
         (outcome, bytes)
     }
 
@@ -162,19 +94,11 @@ impl Tally {
 
     /// Prints the line, and tests that exactly these numbers came.
     fn done(&self, what: &str, numbers: &[RangeInclusive<u16>]) {
-        let Tally { calls, parts, came } = self;
-        let compared = calls + parts;
+        let Tally { both, came } = self;
+        let (compared, calls) = (both.compared(), came.values().sum::<u64>());
         println!("compared {compared} answers and buffers of {calls} {what}, by number {came:?}");
         assert!(came.keys().copied().eq(numbers.iter().cloned().flatten()));
     }
-}
-
-/// The length of the right answer buffer, as far as the header has a count that is not too large.
-fn right_len(file: &[u8]) -> usize {
-    let count = file
-        .get(6..8)
-        .map_or(0, |b| u16::from_le_bytes([b[0], b[1]]));
-    10 * usize::from(count.min(2_601))
 }
 
 /// The bytes of the record at a place.
@@ -184,21 +108,6 @@ fn place_mut(file: &mut [u8], place: usize) -> &mut [u8] {
 
 fn calm_file(count: usize) -> Vec<u8> {
     file_of(&vec![record_of(&CALM, 0.0); count])
-}
-
-/// A good file, its speeds anywhere within their hundredths.
-fn random_file(rng: &mut Rng, count: i32) -> Vec<u8> {
-    let list = if rng.one_in(2) {
-        gusts(rng, count)
-    } else {
-        (0..count).map(|_| random_sample(rng)).collect()
-    };
-    let records = list.iter().map(|s| record_of(s, within_half(rng)));
-    file_of(&records.collect::<Vec<_>>())
-}
-
-fn within_half(rng: &mut Rng) -> f64 {
-    f64::from(rng.within(-49, 49)) / 100.0
 }
 
 /// Every list, its accepted samples written by the library and read back by a run.
@@ -428,30 +337,9 @@ fn damaged_files() {
     let mut tally = Tally::default();
     let kept = examples().map(|(_, file)| file);
     for _ in 0..40_000 {
-        let count = rng.within(0, 40);
-        let mut file = if rng.one_in(20) {
-            kept[rng.draw() as usize % kept.len()].clone()
-        } else {
-            random_file(&mut rng, count)
-        };
-        for _ in 0..rng.within(0, 3) {
-            let end = if rng.one_in(4) { 8 } else { file.len() };
-            let at = rng.draw() as usize % end;
-            file[at] = match rng.within(0, 3) {
-                0 => rng.draw() as u8,
-                1 => rng.pick(&[0, 255]),
-                _ => file[at] ^ 1 << rng.within(0, 7),
-            };
-        }
-        if rng.one_in(6) {
-            file.truncate(rng.draw() as usize % file.len());
-        }
-        if rng.one_in(10) {
-            file.resize(file.len() + rng.within(1, 30) as usize, rng.draw() as u8);
-        }
-        let right = right_len(&file);
-        let wrong = rng.pick(&[right + 1, right + 10, right.saturating_sub(1), right / 2]);
-        tally.run(&file, if rng.one_in(8) { wrong } else { right });
+        let file = damaged_file(&mut rng, &kept);
+        let len = some_len(&mut rng, &file);
+        tally.run(&file, len);
         let raw: [u8; 24] = std::array::from_fn(|_| rng.draw() as u8);
         tally.record(&read_record(&raw), 24);
     }

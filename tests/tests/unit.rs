@@ -1,81 +1,92 @@
-//! The proved unit in the plain form beside the reference: every answer and every state after each sample.
+//! The proved unit beside the reference: every answer and every state after each sample, in the plain form and lent.
 
-use windshear::{Answer, Core, Sample, State};
-use windshear_tests::gen::all_lists;
-use windshear_tests::reference::{self, Unit};
+use std::collections::{BTreeMap, HashSet};
+use windshear::{Core, Sample, State};
+use windshear_tests::both::Both;
+use windshear_tests::gen::{self, all_lists};
+use windshear_tests::library::sent;
 
-fn sent(s: &reference::Sample) -> Sample {
-    Sample::from(s.fields())
-}
-
-/// The answer that the reference's answer stands for.
-fn expected(answer: &Result<reference::Answer, u8>) -> Answer {
-    match *answer {
-        Ok(a) => Answer {
-            refusal: 0,
-            alert: a.alert.into(),
-            voice: a.voice.into(),
-            guidance: a.guidance.into(),
-            command: a.command,
-            shear: a.shear,
-        },
-        Err(n) => Answer { refusal: n.into(), alert: 0, voice: 0, guidance: 0, command: 0, shear: 0 },
-    }
-}
-
-/// The state that the reference's unit stands for, each counter up to where it stops.
-fn state_of(unit: &Unit) -> State {
-    let stop = |n: u64, at: u64| n.min(at) as u16;
-    State {
-        held: unit.last_held(200).try_into().unwrap(),
-        core: Core {
-            along: unit.last_along().unwrap_or(0),
-            mode: unit.last_mode().unwrap_or(0),
-            command: unit.command(),
-            seen: unit.last_along().is_some().into(),
-            red: stop(unit.red_lit_for(), 60),
-            amber: stop(unit.amber_lit_for(), 60),
-            voice: stop(unit.voice_since(), 73),
-            guidance: unit.guidance_counted().map_or(0, |n| n as u16 + 1),
-        },
-    }
-}
-
+/// At every sample of every list the answer and the state are the reference's, within the bounds that refusal 8 names; and the
+/// lists reach every event. The events are told by the reference's counters, which do not stop.
 #[test]
 fn every_list_answers_and_leaves_what_the_reference_does() {
-    let (mut lists, mut compared) = (0u64, 0u64);
+    let both = Both::new();
+    let mut refusals = HashSet::new();
+    let mut seen = BTreeMap::new();
     for (name, list) in all_lists() {
-        let (mut unit, mut state) = (Unit::new(), State::fresh());
-        assert_eq!(state, state_of(&unit), "{name}: fresh");
-        for (i, s) in list.iter().enumerate() {
-            let want = expected(&unit.offer(s));
-            let (answer, after) = state.offer(sent(s));
-            assert_eq!(answer, want, "{name}: answer {i} to {s:?}");
-            if want.refusal != 0 {
-                assert_eq!(after, state, "{name}: a refused sample {i} changed the state");
+        let mut pair = both.fresh(&name);
+        let mut last = None;
+        let (mut red_for, mut counted) = (0, None);
+        for s in &list {
+            let answer = match pair.offer(s) {
+                Ok(answer) => answer,
+                Err(number) => {
+                    refusals.insert(number);
+                    continue;
+                }
+            };
+            let unit = &pair.unit;
+            assert!(answer.shear.abs() <= 50_000_000);
+            assert!((-30_000..=27_000).contains(&answer.command));
+            assert!(answer.guidance || answer.command == 0);
+            assert!(answer.guidance == unit.guidance_counted().is_some());
+            assert!(unit.guidance_counted() < Some(600));
+            let comes_on = unit.red_lit_for() == 1;
+            let climbed = counted == Some(599) && !answer.guidance && s.deselect == 0;
+            let mode_change = last.is_some_and(|mode| mode != s.mode);
+            let events = [
+                ("red", answer.alert == 2),
+                ("amber", answer.alert == 1),
+                ("voice 3", answer.voice == 3),
+                ("voice after red", answer.voice > 0 && answer.alert != 2),
+                ("red past its hold", unit.red_lit_for() > 60),
+                ("red out at its hold", red_for == 60 && answer.alert != 2),
+                ("amber past its hold", unit.amber_lit_for() > 60),
+                ("coming-on with a mode change", comes_on && mode_change),
+                (
+                    "coming-on without voice",
+                    comes_on && unit.voice_since() > 72,
+                ),
+                (
+                    "coming-on during voice",
+                    comes_on && (2..=72).contains(&unit.voice_since()),
+                ),
+                (
+                    "coming-on deselected",
+                    comes_on && counted.is_none() && s.deselect == 1,
+                ),
+                (
+                    "coming-on during guidance",
+                    comes_on && counted.is_some() && answer.guidance,
+                ),
+                ("climbed away", climbed),
+                ("climbed away at a coming-on", climbed && comes_on),
+                (
+                    "599 then a break",
+                    counted == Some(599) && unit.guidance_counted() == Some(0),
+                ),
+                ("command at the cap", answer.command == 27_000),
+                (
+                    "command of zero shown",
+                    answer.command == 0 && answer.guidance,
+                ),
+                ("command below zero", answer.command < -10_000),
+            ];
+            for (event, happened) in events {
+                *seen.entry(event).or_insert(0) += u32::from(happened);
             }
-            assert_eq!(after, state_of(&unit), "{name}: state after {i}");
-            state = after;
-            compared += 2;
+            (last, red_for, counted) = (Some(s.mode), unit.red_lit_for(), unit.guidance_counted());
         }
-        lists += 1;
     }
-    println!("compared {compared} answers and states of {lists} lists");
-    assert!(lists > 3_000 && compared > 2_000_000);
+    assert_eq!(refusals, (11..=20).collect());
+    assert!(seen.values().all(|&times| times > 0), "{seen:?}");
+    both.done();
+    assert!(both.compared() > 4_000_000);
 }
 
-const CALM: Sample = Sample {
-    along: 0,
-    vertical: 0,
-    airspeed: 14_000,
-    height: 400,
-    pitch: 5_000,
-    stall: 20_000,
-    climb: -700,
-    vs1: 10_000,
-    mode: 1,
-    deselect: 0,
-};
+fn calm() -> Sample {
+    sent(&gen::CALM)
+}
 
 /// Every rule of refusal 8: an edit of a state, its limits, and one beyond on each side.
 fn forged() -> Vec<(State, bool)> {
@@ -126,9 +137,9 @@ fn put_all_extreme(states: &mut Vec<(State, bool)>, v: i32) {
 #[test]
 fn forged_states_are_refused_by_8_exactly_at_its_limits() {
     let mut compared = 0u64;
-    let bad = Sample { along: 20_001, ..CALM };
+    let bad = Sample { along: 20_001, ..calm() };
     for (t, passes) in forged() {
-        let (answer, after) = t.offer(CALM);
+        let (answer, after) = t.offer(calm());
         assert_eq!(answer.refusal == 8, !passes, "{:?}", t.core);
         assert_eq!(after == t, !passes);
         // 8 comes before the sample's own numbers
@@ -148,7 +159,7 @@ fn what_passes_is_answered_and_passes_again() {
                 let core = Core { along: -20_000, mode: 1, command, seen: n, red: n, amber: n, voice: n, guidance: n };
                 let mut t = State { held: [held; 200], core };
                 for along in [20_000, -20_000, 20_000] {
-                    let s = Sample { along, vertical: -10_000, airspeed: 6_000, climb: 10_000, ..CALM };
+                    let s = Sample { along, vertical: -10_000, airspeed: 6_000, climb: 10_000, ..calm() };
                     let (answer, after) = t.offer(s);
                     assert_eq!(answer.refusal, 0, "{:?}", t.core);
                     assert!(after.core.red <= 60 && after.core.amber <= 60 && after.core.voice <= 73 && after.core.guidance <= 600);

@@ -1,0 +1,154 @@
+//! The reference and the library under the same calls: each call is made of both, and gives what both give, or fails.
+
+use crate::gen::CALM;
+use crate::lend::lend;
+use crate::library::{cut, expected, refused, sent, sent_record, state_of};
+use crate::program::listed;
+use crate::reference::{self, Answer, Record, Sample, Unit};
+use std::cell::Cell;
+use windshear::State;
+
+/// Makes the calls, and counts the answers, states and buffers that it compared.
+#[derive(Default)]
+pub struct Both {
+    compared: Cell<u64>,
+}
+
+impl Both {
+    pub fn new() -> Both {
+        Both::default()
+    }
+
+    fn count(&self, more: u64) {
+        self.compared.set(self.compared.get() + more);
+    }
+
+    pub fn compared(&self) -> u64 {
+        self.compared.get()
+    }
+
+    /// Prints the line of a test.
+    pub fn done(&self) {
+        let compared = self.compared();
+        assert!(compared > 0);
+        println!(
+            "compared {compared} answers, states and buffers of the reference and the library"
+        );
+    }
+
+    /// Two units that have seen no sample; failures name the list that they are to be told.
+    pub fn fresh<'a>(&'a self, list: &'a str) -> Pair<'a> {
+        let pair = Pair {
+            both: self,
+            list,
+            offered: 0,
+            unit: Unit::new(),
+            state: State::fresh(),
+        };
+        assert_eq!(pair.state, state_of(&pair.unit), "{list}: fresh");
+        self.count(1);
+        pair
+    }
+
+    /// The answers to a list from fresh, each sample accepted.
+    pub fn play(&self, list: &[Sample]) -> Vec<Answer> {
+        let mut pair = self.fresh("played");
+        list.iter().map(|s| pair.offer(s).unwrap()).collect()
+    }
+
+    /// The number that a sample is refused by, or 0.
+    pub fn refusal(&self, s: &Sample) -> u8 {
+        self.fresh("one").offer(s).err().unwrap_or(0)
+    }
+
+    /// The held shear that is shown where the along wind has changed by so much since the sample before.
+    pub fn shear(&self, change: i32, vertical: i32, airspeed: i32) -> i32 {
+        let before = Sample {
+            along: -change / 2,
+            ..CALM
+        };
+        let changed = Sample {
+            along: before.along + change,
+            vertical,
+            airspeed,
+            ..CALM
+        };
+        self.play(&[before, changed])[1].shear
+    }
+
+    /// A pattern's hundredths, as far as the library's cut.
+    pub fn hundredths(&self, bits: u32) -> Option<i32> {
+        let found = windshear::hundredths(bits);
+        assert_eq!(found, reference::hundredths(bits).map(cut), "{bits:#010x}");
+        self.count(1);
+        found
+    }
+
+    pub fn write_header(&self, count: u32, len: usize) -> Result<[u8; 8], u8> {
+        let want = reference::write_header(count, len);
+        lend(
+            len,
+            |buf| windshear::write_header(count, buf),
+            want.map_err(u16::from),
+        );
+        self.count(2);
+        want
+    }
+
+    pub fn write_record(&self, r: &Record, len: usize) -> Result<[u8; 24], u8> {
+        let want = reference::write_record(r, len);
+        lend(
+            len,
+            |buf| windshear::write_record(&sent_record(r), buf),
+            want.map_err(u16::from),
+        );
+        self.count(2);
+        want
+    }
+
+    pub fn run(&self, file: &[u8], len: usize) -> Result<Vec<u8>, (u8, u32)> {
+        let want = reference::run(file, len);
+        let outcome = want
+            .as_ref()
+            .map_err(|&(number, place)| refused(number, place as usize));
+        lend(len, |answers| windshear::run(file, answers), outcome);
+        // the outcome, and each answer of ten bytes or all that was left as it was
+        self.count(1 + want.as_ref().map_or(1, |bytes| bytes.len() as u64 / 10));
+        want
+    }
+
+    /// The listing, by the program on the library's side.
+    pub fn listing(&self, file: &[u8]) -> String {
+        let text = listed(file);
+        assert_eq!(text, reference::listing(file), "{} bytes", file.len());
+        self.count(1);
+        text
+    }
+}
+
+/// The reference's unit and the library's state, told the same samples.
+pub struct Pair<'a> {
+    both: &'a Both,
+    list: &'a str,
+    offered: usize,
+    pub unit: Unit,
+    pub state: State,
+}
+
+impl Pair<'_> {
+    /// One sample, offered to the library in the plain form and lent. Err is the refusal number.
+    pub fn offer(&mut self, s: &Sample) -> Result<Answer, u8> {
+        let (list, i) = (self.list, self.offered);
+        let answer = self.unit.offer(s);
+        let (want, left) = (expected(&answer), state_of(&self.unit));
+        let (plain, after) = self.state.offer(sent(s));
+        assert_eq!(plain, want, "{list}: answer {i} to {s:?}");
+        assert_eq!(after, left, "{list}: state after {i}");
+        let lent = self.state.offer_lent(sent(s));
+        assert_eq!(lent, want, "{list}: lent answer {i} to {s:?}");
+        assert_eq!(self.state, left, "{list}: lent state after {i}");
+        self.both.count(4);
+        self.offered += 1;
+        answer
+    }
+}
