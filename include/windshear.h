@@ -1,33 +1,35 @@
-/* The proved windshear unit for C programs. Link target/staticlib/libhost.a, which `rt staticlib host` writes.
+/* The proved windshear unit for C programs. Link target/staticlib/libhost.a, which `rt staticlib host` writes. It is for x86-64 Linux only.
  *
  * Every function is defined for every value of its arguments: what is out of range is refused by a number. A pointer must not
  * be NULL, not even where the length is 0, and must be valid for the size given. Two buffers must not overlap, and no other
- * thread may use them meanwhile.
+ * thread may use them meanwhile. A struct must be aligned as C aligns it (4 bytes); a file or a buffer needs no alignment.
  *
- * Refusal numbers, in the order tested:
- *    1 file shorter than 8 bytes        5 count above 2,600
- *    2 mark is not WSR                  6 length is not 8 + 24 x count
- *    3 version is not 1                 7 lent buffer has the wrong length
- *    4 sixth byte is not zero           8 the state is out of range (see windshear_core and windshear_state)
- *   11 along wind     14 height                 17 climb
- *   12 vertical wind  15 pitch                  18 stall speed Vs1
- *   13 airspeed       16 stall-warning pitch    19 mode     20 deselect
- *    each where the field is out of range, or is a float that is not finite
+ * WARNING: an answer to a refused sample has alert 0, which says nothing of the lamps: they stay as they were. A host that
+ * shows `alert` without a look at `refusal` would darken a lit lamp.
  *
- * Twenty samples make a second. A program that lights the red lamp:
+ * Twenty samples make a second. A program that lights the red lamp, and keeps it lit at a sample that is refused:
  *
  *    #include <stdio.h>
  *    #include "windshear.h"
  *
  *    int main(void) {
+ *        static const int along[3] = {0, 2000, 30000};
  *        struct windshear_state state = windshear_fresh();
  *        struct windshear_sample sample = {.airspeed = 14000, .height = 400, .pitch = 5000,
  *                                          .stall = 20000, .climb = -700, .vs1 = 10000, .mode = 1};
- *        windshear_offer_lent(&state, sample);
- *        sample.along = 2000;
- *        struct windshear_answer answer = windshear_offer_lent(&state, sample);
- *        printf("refusal %d alert %d command %d\n", answer.refusal, answer.alert, (int)answer.command);
- *        return answer.alert == 2 ? 0 : 1;
+ *        int lamp = WINDSHEAR_ALERT_NONE, refused = 0;
+ *        for (int i = 0; i < 3; i++) {
+ *            sample.along = along[i];
+ *            struct windshear_answer answer = windshear_offer_lent(&state, sample);
+ *            if (answer.refusal != WINDSHEAR_ACCEPTED) {
+ *                refused++;
+ *                printf("refused by %d: the lamp stays %d\n", answer.refusal, lamp);
+ *                continue;
+ *            }
+ *            lamp = answer.alert;
+ *            printf("lamp %d command %d\n", lamp, (int)answer.command);
+ *        }
+ *        return lamp == WINDSHEAR_ALERT_RED && refused == 1 ? 0 : 1;
  *    }
  */
 #ifndef WINDSHEAR_H
@@ -39,6 +41,33 @@
 #ifdef __cplusplus
 extern "C" {
 #endif
+
+/* The refusal numbers, in the order tested: what `refusal` holds, and what a writer answers. */
+enum windshear_refusal {
+    WINDSHEAR_ACCEPTED = 0,
+    WINDSHEAR_REFUSED_SHORT = 1,   /* file shorter than 8 bytes */
+    WINDSHEAR_REFUSED_MARK = 2,    /* mark is not WSR */
+    WINDSHEAR_REFUSED_VERSION = 3, /* version is not 1 */
+    WINDSHEAR_REFUSED_ZERO = 4,    /* sixth byte is not zero */
+    WINDSHEAR_REFUSED_COUNT = 5,   /* count above 2,600 */
+    WINDSHEAR_REFUSED_LENGTH = 6,  /* length is not 8 + 24 x count */
+    WINDSHEAR_REFUSED_BUFFER = 7,  /* lent buffer has the wrong length */
+    WINDSHEAR_REFUSED_STATE = 8,   /* the state is out of range: see windshear_core and windshear_state */
+    /* the sample's or the record's field is out of range, or is a float that is not finite */
+    WINDSHEAR_REFUSED_ALONG = 11,
+    WINDSHEAR_REFUSED_VERTICAL = 12,
+    WINDSHEAR_REFUSED_AIRSPEED = 13,
+    WINDSHEAR_REFUSED_HEIGHT = 14,
+    WINDSHEAR_REFUSED_PITCH = 15,
+    WINDSHEAR_REFUSED_STALL = 16,
+    WINDSHEAR_REFUSED_CLIMB = 17,
+    WINDSHEAR_REFUSED_VS1 = 18,
+    WINDSHEAR_REFUSED_MODE = 19,
+    WINDSHEAR_REFUSED_DESELECT = 20
+};
+
+/* What `alert` holds, and the first of a record's ten answer bytes. */
+enum windshear_alert { WINDSHEAR_ALERT_NONE = 0, WINDSHEAR_ALERT_AMBER = 1, WINDSHEAR_ALERT_RED = 2 };
 
 /* One sample. A field may hold any value; the comment says what is accepted. */
 struct windshear_sample {
@@ -55,7 +84,7 @@ struct windshear_sample {
 };
 
 /* What the unit keeps beside the held shears. Refused by 8: a counter above 600, a command outside -30,000 to 27,000, a last
- * along wind outside -20,000 to 20,000, a last mode outside 0 to 1. */
+ * along wind outside -20,000 to 20,000, a last mode outside 0 to 1. Its last two bytes, 22 and 23, are padding. */
 struct windshear_core {
     int32_t along;     /* the last accepted sample's along wind */
     int32_t mode;      /* and its mode */
@@ -67,16 +96,18 @@ struct windshear_core {
     uint16_t guidance; /* counter: 0 is off; else one more than the samples in a row that have counted towards its end */
 };
 
-/* The state that the host keeps and lends. A held shear beyond 50,000,000 either way is refused by 8. */
+/* The state that the host keeps and lends. A held shear beyond 50,000,000 either way is refused by 8.
+ * Memory that is all zeros is the fresh state. Its last two bytes, 822 and 823, are padding (the core's), which a call may
+ * leave at any values: compare two states field by field, not by memcmp. */
 struct windshear_state {
     int32_t held[200]; /* held shears in hundred-thousandths, the newest first */
     struct windshear_core core;
 };
 
-/* What a sample is answered. Where refusal is not 0 the other fields are 0. */
+/* What a sample is answered. Where refusal is not 0 the other fields are 0, alert too, though a lamp may be lit: it stays lit. */
 struct windshear_answer {
-    uint16_t refusal;
-    uint16_t alert;    /* 0 none, 1 amber, 2 red */
+    uint16_t refusal;  /* of enum windshear_refusal: 0, 8, or 11 to 20 */
+    uint16_t alert;    /* of enum windshear_alert, where refusal is 0 */
     uint16_t voice;    /* cycle 1, 2 or 3; 0 for none */
     uint16_t guidance; /* 1 where the command is shown */
     int32_t command;   /* 0.001 degree */
@@ -108,13 +139,28 @@ struct windshear_outcome {
     uint16_t place;
 };
 
-/* A float's hundredths, cut at 1,000,000 either way. Where finite is 0 the hundredths are 0. */
-struct windshear_hundredths {
+/* A file's own test: 0, 0 and how many records it has; or a refusal with its place as in windshear_outcome, and 0. */
+struct windshear_file_test {
+    uint16_t refusal;
+    uint16_t place;
+    uint16_t count;
+};
+
+/* The record at a place. Where found is 0 the record and the sample are all zeros. */
+struct windshear_reading {
+    uint16_t found;
+    uint16_t refusal;
+    struct windshear_record record; /* as the file has it, its floats bit for bit */
+    struct windshear_sample sample; /* the sample that a run takes it as */
+};
+
+/* A float's hundredths, cut at 1,000,000 either way. Where finite is 0 the hundredths are 0. Bytes 2 and 3 are padding. */
+struct windshear_converted {
     uint16_t finite;
     int32_t hundredths;
 };
 
-/* The state that has seen no sample. */
+/* The state that has seen no sample: all fields 0. */
 struct windshear_state windshear_fresh(void);
 
 /* A sample offered to the lent state: refused by 8 or 11 to 20, the state left as it stood; or answered, the state left as the next. */
@@ -123,15 +169,28 @@ struct windshear_answer windshear_offer_lent(struct windshear_state *state, stru
 /* The same with the state by value. */
 struct windshear_offered windshear_offer(struct windshear_state state, struct windshear_sample sample);
 
-/* A whole run file. The answers are 10 bytes a record; refused, the buffer is untouched. */
+/* A whole run file. The answers are 10 bytes a record: alert, voice, the command in 2 (signed), the held shear in 4 (signed),
+ * guidance, a zero; the lowest byte first. Refused by 1 to 7 or 11 to 20, the buffer is untouched. */
 struct windshear_outcome windshear_run(const uint8_t *file, size_t file_length, uint8_t *answers, size_t answers_length);
+
+/* What windshear_run would answer of the file with an answer buffer of the right length: refused by 1 to 6 or 11 to 20; or
+ * refusal 0 and the count, so that the right length is 10 x count. */
+struct windshear_file_test windshear_test_file(const uint8_t *file, size_t length);
+
+/* The record at a place, from 0, whatever the file holds and whatever the place is:
+ *    refusal 1 to 6, found 0: the file is refused by its header or its length, at every place;
+ *    refusal 0, found 0: the file has no record there: place is not below its count;
+ *    refusal 11 to 20, found 0: that record is refused (others of the file may be good);
+ *    refusal 0, found 1: the record, though others of the file may be refused.
+ * Writing a record that was found gives its 24 bytes again, and reading one that was written gives its fields again. */
+struct windshear_reading windshear_read_record(const uint8_t *file, size_t length, size_t place);
 
 /* A run file's 8 header bytes (refused by 5 or 7) and a record's 24 (refused by 7 or 11 to 20); refused, the buffer is untouched. */
 uint16_t windshear_write_header(uint32_t count, uint8_t *buffer, size_t length);
 uint16_t windshear_write_record(struct windshear_record record, uint8_t *buffer, size_t length);
 
 /* The hundredths that the float with these 32 bits becomes. */
-struct windshear_hundredths windshear_hundredths(uint32_t bits);
+struct windshear_converted windshear_hundredths(uint32_t bits);
 
 #ifdef __cplusplus
 }

@@ -1,13 +1,20 @@
-/* The C interface: the layout of every struct against the library, and what refusals leave behind. */
+/* The C interface: the layout of every struct against the library, what refusals leave behind, and records read back. */
 #include <stdio.h>
 #include <string.h>
 #include "windshear.h"
 
 #define AT(type, field, offset) _Static_assert(offsetof(struct windshear_##type, field) == offset, #type "." #field)
 #define SIZE(type, size) _Static_assert(sizeof(struct windshear_##type) == size, #type)
-SIZE(sample, 40); SIZE(core, 24); SIZE(state, 824); SIZE(answer, 16); SIZE(offered, 840); SIZE(record, 24); SIZE(outcome, 4); SIZE(hundredths, 8);
+SIZE(sample, 40); SIZE(core, 24); SIZE(state, 824); SIZE(answer, 16); SIZE(offered, 840); SIZE(record, 24); SIZE(outcome, 4); SIZE(converted, 8);
+SIZE(file_test, 6); SIZE(reading, 68);
 AT(core, command, 8); AT(core, seen, 12); AT(core, guidance, 20); AT(state, core, 800); AT(answer, guidance, 6); AT(answer, shear, 12);
-AT(offered, state, 16); AT(record, height, 12); AT(record, vs1, 20); AT(record, deselect, 23); AT(outcome, place, 2); AT(hundredths, hundredths, 4);
+AT(offered, state, 16); AT(record, height, 12); AT(record, vs1, 20); AT(record, deselect, 23); AT(outcome, place, 2); AT(converted, hundredths, 4);
+AT(file_test, count, 4); AT(reading, record, 4); AT(reading, sample, 28);
+_Static_assert(_Alignof(struct windshear_state) == 4 && _Alignof(struct windshear_offered) == 4 && _Alignof(struct windshear_reading) == 4, "alignment");
+
+/* where the header says that a state's padding is */
+enum { PADDING = offsetof(struct windshear_state, core.guidance) + 2 };
+_Static_assert(PADDING == 822 && sizeof(struct windshear_state) - PADDING == 2, "padding");
 
 static int checks, wrong;
 
@@ -16,12 +23,28 @@ static void check(int ok, const char *what) {
     if (!ok) { wrong++; printf("wrong: %s\n", what); }
 }
 
+static int same_state(const struct windshear_state *a, const struct windshear_state *b) {
+    const struct windshear_core *c = &a->core, *d = &b->core;
+    for (int i = 0; i < 200; i++)
+        if (a->held[i] != b->held[i]) return 0;
+    return c->along == d->along && c->mode == d->mode && c->command == d->command && c->seen == d->seen && c->red == d->red
+           && c->amber == d->amber && c->voice == d->voice && c->guidance == d->guidance;
+}
+
+static int same_answer(struct windshear_answer a, struct windshear_answer b) {
+    return a.refusal == b.refusal && a.alert == b.alert && a.voice == b.voice && a.guidance == b.guidance && a.command == b.command && a.shear == b.shear;
+}
+
 static const struct windshear_sample calm = {.airspeed = 14000, .height = 400, .pitch = 5000, .stall = 20000, .climb = -700, .vs1 = 10000, .mode = 1};
+static const struct windshear_answer nothing = {0, 0, 0, 0, 0, 0};
 
 /* Each field of a sample, one out of range at each end: its own number, so its own place. */
 static void sample_fields(void) {
     static const int32_t range[10][2] = {{-20000, 20000}, {-10000, 10000}, {6000, 60000}, {-20, 5000}, {-30000, 30000},
                                          {-10000, 30000}, {-10000, 10000}, {5000, 30000}, {0, 1}, {0, 1}};
+    static const int number[10] = {WINDSHEAR_REFUSED_ALONG, WINDSHEAR_REFUSED_VERTICAL, WINDSHEAR_REFUSED_AIRSPEED, WINDSHEAR_REFUSED_HEIGHT,
+                                   WINDSHEAR_REFUSED_PITCH, WINDSHEAR_REFUSED_STALL, WINDSHEAR_REFUSED_CLIMB, WINDSHEAR_REFUSED_VS1,
+                                   WINDSHEAR_REFUSED_MODE, WINDSHEAR_REFUSED_DESELECT};
     for (int i = 0; i < 10; i++)
         for (int end = 0; end < 2; end++)
             for (int beyond = 0; beyond < 2; beyond++) {
@@ -30,8 +53,8 @@ static void sample_fields(void) {
                 int32_t value = range[i][end] + (beyond ? (end ? 1 : -1) : 0);
                 memcpy((char *)&s + 4 * i, &value, 4);
                 struct windshear_answer a = windshear_offer_lent(&state, s);
-                check(a.refusal == (beyond ? 11 + i : 0), "a sample's number");
-                check(!beyond || memcmp(&state, &before, sizeof state) == 0, "a refused sample leaves the lent state's bytes");
+                check(a.refusal == (beyond ? number[i] : WINDSHEAR_ACCEPTED) && (!beyond || a.refusal == 11 + i), "a sample's number");
+                check(!beyond || same_state(&state, &before), "a refused sample leaves the lent state");
             }
 }
 
@@ -41,25 +64,63 @@ static void state_fields(void) {
     for (int i = 0; i < 200 + 3 + 5; i++)
         for (int beyond = 0; beyond < 2; beyond++) {
             struct windshear_state state = fresh, before;
+            uint16_t *counter[5] = {&state.core.seen, &state.core.red, &state.core.amber, &state.core.voice, &state.core.guidance};
             if (i < 200) state.held[i] = 50000000 + beyond;
             else if (i == 200) state.core.along = -20000 - beyond;
             else if (i == 201) state.core.mode = 1 + beyond;
             else if (i == 202) state.core.command = 27000 + beyond;
-            else ((uint16_t *)&state.core.seen)[i - 203] = (uint16_t)(600 + beyond);
+            else *counter[i - 203] = (uint16_t)(600 + beyond);
             before = state;
             struct windshear_answer a = windshear_offer_lent(&state, calm);
-            check((a.refusal == 8) == beyond, "8 by one field of the state");
-            check(!beyond || memcmp(&state, &before, sizeof state) == 0, "a state that 8 refuses is left");
+            check((a.refusal == WINDSHEAR_REFUSED_STATE) == beyond, "8 by one field of the state");
+            check(!beyond || same_state(&state, &before), "a state that 8 refuses is left");
         }
 }
 
-/* 01's three records, lent, in the plain form, and as a run file. */
+/* A state of zero bytes is the fresh one; its padding's bytes change no answer and no field. */
+static void zeroed_and_padded(void) {
+    struct windshear_state fresh = windshear_fresh(), zeroed, padded;
+    memset(&zeroed, 0, sizeof zeroed);
+    memset(&padded, 0, sizeof padded);
+    check(same_state(&zeroed, &fresh), "zeroed memory is the fresh state");
+    for (int i = 0; i < 300; i++) {
+        struct windshear_sample s = calm;
+        s.along = 2000 * (i / 5 % 2);
+        s.height = 400 + 7 * i;
+        s.mode = i / 90 % 2;
+        memset((char *)&padded + PADDING, 0x5a + i, 2);
+        struct windshear_answer a = windshear_offer_lent(&fresh, s);
+        check(same_answer(windshear_offer_lent(&zeroed, s), a) && same_state(&zeroed, &fresh), "from zeroed memory as from the fresh state");
+        check(same_answer(windshear_offer_lent(&padded, s), a) && same_state(&padded, &fresh), "whatever the padding holds");
+    }
+}
+
+/* A refused sample while red is lit: the answer is all zeros but for its number, and the lamp is still lit afterwards. */
+static void refused_while_lit(void) {
+    struct windshear_state state = windshear_fresh();
+    struct windshear_sample s = calm;
+    windshear_offer_lent(&state, s);
+    s.along = 2000;
+    check(windshear_offer_lent(&state, s).alert == WINDSHEAR_ALERT_RED, "red is lit");
+    struct windshear_state before = state;
+    struct windshear_answer want = nothing;
+    want.refusal = WINDSHEAR_REFUSED_ALONG;
+    s.along = 20001;
+    check(same_answer(windshear_offer_lent(&state, s), want) && same_state(&state, &before), "a refused answer shows no alert");
+    s.along = 2000;
+    check(windshear_offer_lent(&state, s).alert == WINDSHEAR_ALERT_RED && state.core.red == 2, "and the lamp stayed lit");
+}
+
+/* 01's three records, lent, in the plain form, and as a run file that is read back, from an odd address. */
 static void three_records(void) {
     static const float along[3] = {0, 20, 20}, vertical[3] = {0, 0, -10};
-    static const struct windshear_answer want[3] = {{0, 0, 0, 0, 0, 0}, {0, 2, 1, 1, 5000, 2098349}, {0, 2, 1, 1, 5075, 7143}};
+    static const struct windshear_answer want[3] = {{0, 0, 0, 0, 0, 0}, {0, WINDSHEAR_ALERT_RED, 1, 1, 5000, 2098349}, {0, WINDSHEAR_ALERT_RED, 1, 1, 5075, 7143}};
     struct windshear_state lent = windshear_fresh(), plain = lent;
-    uint8_t file[8 + 3 * 24], answers[30], before[30];
-    check(windshear_write_header(3, file, 8) == 0, "the header is written");
+    _Alignas(8) uint8_t room[1 + 8 + 3 * 24];
+    uint8_t *const file = room + 1;
+    const size_t length = sizeof room - 1;
+    uint8_t answers[30], before[30];
+    check(windshear_write_header(3, file, 8) == WINDSHEAR_ACCEPTED, "the header is written");
     for (int i = 0; i < 3; i++) {
         struct windshear_sample s = calm;
         s.along = (int32_t)(100 * along[i]);
@@ -67,45 +128,90 @@ static void three_records(void) {
         struct windshear_answer a = windshear_offer_lent(&lent, s);
         struct windshear_offered o = windshear_offer(plain, s);
         plain = o.state;
-        check(memcmp(&a, &want[i], sizeof a) == 0, "01's answer, lent");
-        check(memcmp(&o.answer, &a, sizeof a) == 0 && memcmp(&lent.held, &plain.held, sizeof lent.held) == 0 && lent.core.red == plain.core.red, "both forms agree");
+        check(same_answer(a, want[i]), "01's answer, lent");
+        check(same_answer(o.answer, a) && same_state(&lent, &plain), "both forms agree");
         struct windshear_record r = {along[i], vertical[i], 140, 400, 5000, 20000, -700, 10000, 1, 0};
-        check(windshear_write_record(r, file + 8 + 24 * i, 24) == 0, "the record is written");
+        check(windshear_write_record(r, file + 8 + 24 * i, 24) == WINDSHEAR_ACCEPTED, "the record is written");
+        struct windshear_file_test early = windshear_test_file(file, 8 + 24 * (size_t)(i + 1));
+        check(early.refusal == (i < 2 ? WINDSHEAR_REFUSED_LENGTH : WINDSHEAR_ACCEPTED) && early.place == 0 && early.count == (i < 2 ? 0 : 3), "a file's own test");
     }
-    struct windshear_outcome good = windshear_run(file, sizeof file, answers, sizeof answers);
-    check(good.refusal == 0 && good.place == 0, "the run is accepted");
+    struct windshear_outcome good = windshear_run(file, length, answers, sizeof answers);
+    check(good.refusal == WINDSHEAR_ACCEPTED && good.place == 0, "the run is accepted");
     for (int i = 0; i < 3; i++) {
         const uint8_t *ten = answers + 10 * i;
         int16_t command = (int16_t)(ten[2] + 256 * ten[3]);
         uint32_t shear = ten[4] + 256u * ten[5] + 65536u * ten[6] + 16777216u * ten[7];
         check(ten[0] == want[i].alert && ten[1] == want[i].voice && command == want[i].command && (int32_t)shear == want[i].shear && ten[8] == want[i].guidance && ten[9] == 0, "01's ten bytes");
+        struct windshear_reading r = windshear_read_record(file, length, (size_t)i);
+        check(r.found == 1 && r.refusal == WINDSHEAR_ACCEPTED && r.record.along == along[i] && r.record.vertical == vertical[i] && r.record.airspeed == 140
+              && r.record.height == 400 && r.record.pitch == 5000 && r.record.stall == 20000 && r.record.climb == -700 && r.record.vs1 == 10000
+              && r.record.mode == 1 && r.record.deselect == 0, "a record is read as it was written");
+        check(r.sample.along == (int32_t)(100 * along[i]) && r.sample.vertical == (int32_t)(100 * vertical[i]) && r.sample.airspeed == calm.airspeed
+              && r.sample.height == calm.height && r.sample.pitch == calm.pitch && r.sample.stall == calm.stall && r.sample.climb == calm.climb
+              && r.sample.vs1 == calm.vs1 && r.sample.mode == calm.mode && r.sample.deselect == 0, "and its sample");
+        uint8_t again[24];
+        check(windshear_write_record(r.record, again, 24) == WINDSHEAR_ACCEPTED && memcmp(again, file + 8 + 24 * i, 24) == 0, "and written as it was read");
     }
     memcpy(before, answers, sizeof answers);
     file[8 + 24 + 22] = 2;
-    struct windshear_outcome bad = windshear_run(file, sizeof file, answers, sizeof answers);
-    check(bad.refusal == 19 && bad.place == 1, "a bad record's number and place");
+    struct windshear_outcome bad = windshear_run(file, length, answers, sizeof answers);
+    check(bad.refusal == WINDSHEAR_REFUSED_MODE && bad.place == 1, "a bad record's number and place");
     check(memcmp(before, answers, sizeof answers) == 0, "a refused run leaves the buffer");
-    bad = windshear_run(file, sizeof file, answers, sizeof answers - 1);
-    check(bad.refusal == 7 && bad.place == 0 && memcmp(before, answers, sizeof answers) == 0, "7 comes before the records");
+    bad = windshear_run(file, length, answers, sizeof answers - 1);
+    check(bad.refusal == WINDSHEAR_REFUSED_BUFFER && bad.place == 0 && memcmp(before, answers, sizeof answers) == 0, "7 comes before the records");
+    struct windshear_file_test test = windshear_test_file(file, length);
+    check(test.refusal == WINDSHEAR_REFUSED_MODE && test.place == 1 && test.count == 0, "the file's own test says the same, and no count");
+    static const struct { size_t place; int found, refusal; } places[] = {{0, 1, 0}, {1, 0, WINDSHEAR_REFUSED_MODE}, {2, 1, 0}, {3, 0, 0}, {SIZE_MAX, 0, 0}};
+    for (size_t i = 0; i < sizeof places / sizeof *places; i++) {
+        struct windshear_reading r = windshear_read_record(file, length, places[i].place), none;
+        memset(&none, 0, sizeof none);
+        none.refusal = (uint16_t)places[i].refusal;
+        /* a reading has no padding */
+        check(r.found == places[i].found && r.refusal == places[i].refusal && (r.found || memcmp(&r, &none, sizeof r) == 0), "the record at a place, or zeros");
+    }
+}
+
+/* The first six numbers, by a file's own test and at every place alike. */
+static void headers(void) {
+    uint8_t good[8], file[8];
+    check(windshear_write_header(0, good, 8) == WINDSHEAR_ACCEPTED, "the header of no records");
+    for (int number = 0; number < 7; number++) {
+        memcpy(file, good, 8);
+        if (number == WINDSHEAR_REFUSED_MARK) file[1] = 's';
+        if (number == WINDSHEAR_REFUSED_VERSION) file[4] = 1;
+        if (number == WINDSHEAR_REFUSED_ZERO) file[5] = 1;
+        if (number == WINDSHEAR_REFUSED_COUNT) file[6] = 0x29, file[7] = 0x0a;
+        if (number == WINDSHEAR_REFUSED_LENGTH) file[6] = 1;
+        size_t length = number == WINDSHEAR_REFUSED_SHORT ? 7 : 8;
+        struct windshear_file_test test = windshear_test_file(file, length);
+        check(test.refusal == number && test.place == 0 && test.count == 0, "a header's number");
+        for (size_t place = 0; place < 3; place++) {
+            struct windshear_reading r = windshear_read_record(file, length, place);
+            check(r.found == 0 && r.refusal == number, "the same at every place");
+        }
+    }
 }
 
 static void writers(void) {
     uint8_t buffer[25];
     memset(buffer, 0xa5, sizeof buffer);
-    check(windshear_write_header(2601, buffer, 7) == 5 && windshear_write_header(2600, buffer, 7) == 7, "5, then 7");
+    check(windshear_write_header(2601, buffer, 7) == WINDSHEAR_REFUSED_COUNT && windshear_write_header(2600, buffer, 7) == WINDSHEAR_REFUSED_BUFFER, "5, then 7");
     struct windshear_record r = {0, 0, 140, 400, 5000, 20000, -700, 10000, 1, 2};
-    check(windshear_write_record(r, buffer, 25) == 7 && windshear_write_record(r, buffer, 24) == 20, "7, then 20");
+    check(windshear_write_record(r, buffer, 25) == WINDSHEAR_REFUSED_BUFFER && windshear_write_record(r, buffer, 24) == WINDSHEAR_REFUSED_DESELECT, "7, then 20");
     r.along = __builtin_nanf("");
-    check(windshear_write_record(r, buffer, 24) == 11, "a float that is no number");
+    check(windshear_write_record(r, buffer, 24) == WINDSHEAR_REFUSED_ALONG, "a float that is no number");
     for (size_t i = 0; i < sizeof buffer; i++) check(buffer[i] == 0xa5, "a refused write leaves the buffer");
-    struct windshear_hundredths h = windshear_hundredths(0xbe000000u), none = windshear_hundredths(0x7f800000u);
+    struct windshear_converted h = windshear_hundredths(0xbe000000u), none = windshear_hundredths(0x7f800000u);
     check(h.finite == 1 && h.hundredths == -13 && none.finite == 0 && none.hundredths == 0, "a float's hundredths");
 }
 
 int main(void) {
     sample_fields();
     state_fields();
+    zeroed_and_padded();
+    refused_while_lit();
     three_records();
+    headers();
     writers();
     printf("compared %d facts of the C interface\n", checks);
     return wrong != 0;

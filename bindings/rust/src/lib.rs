@@ -1,4 +1,19 @@
 //! The proved windshear unit and its run files, for Rust programs. Every function takes every value: what is out of range is refused by its number.
+//!
+//! ```
+//! use windshear::{Alert, Sample, State};
+//!
+//! let mut state = State::fresh();
+//! let mut sample = Sample { airspeed: 14_000, height: 400, pitch: 5_000, stall: 20_000, climb: -700, vs1: 10_000, mode: 1, ..Sample::default() };
+//! let mut lamp = state.offer_lent(sample).lamp();
+//! assert_eq!(lamp, Ok(Alert::None));
+//! sample.along = 2_000;
+//! lamp = state.offer_lent(sample).lamp();
+//! assert_eq!(lamp, Ok(Alert::Red));
+//! // A refused sample says nothing of the lamps: red is still lit.
+//! sample.along = 20_001;
+//! assert_eq!(state.offer_lent(sample).lamp(), Err(11));
+//! ```
 
 /// One of the twenty samples of a second, in the units of 01's table.
 #[repr(C)]
@@ -45,12 +60,22 @@ pub struct State {
     pub core: Core,
 }
 
+/// Which lamp is lit.
+#[derive(Clone, Copy, Debug, PartialEq, Eq)]
+pub enum Alert {
+    None,
+    Amber,
+    Red,
+}
+
 /// What a sample is answered. `refusal` is 0 where it was accepted; else the other fields are 0.
+///
+/// **A refused answer has `alert` 0, though a lamp may be lit, and it stays lit.** Whoever shows `alert` looks at `refusal` first, or asks [`Answer::lamp`].
 #[repr(C)]
 #[derive(Clone, Copy, Debug, PartialEq, Eq)]
 pub struct Answer {
     pub refusal: u16,
-    /// 0 none, 1 amber, 2 red
+    /// 0 none, 1 amber, 2 red, where `refusal` is 0
     pub alert: u16,
     pub voice: u16,
     /// 1 where the command is shown
@@ -89,8 +114,34 @@ pub struct Outcome {
     pub place: u16,
 }
 
+/// A file's own test: zeros and how many records it has; or a refusal number with its place, as [`Outcome`] has them, and 0.
 #[repr(C)]
-struct Hundredths {
+#[derive(Clone, Copy, Debug, Default, PartialEq, Eq)]
+pub struct FileTest {
+    pub refusal: u16,
+    pub place: u16,
+    pub count: u16,
+}
+
+/// Why no record is read.
+#[derive(Clone, Copy, Debug, PartialEq, Eq)]
+pub enum Unread {
+    /// the file has no record at that place
+    NoSuchPlace,
+    /// the number that refuses the file, 1 to 6, or the record at that place, 11 to 20
+    Refused(u16),
+}
+
+#[repr(C)]
+struct Reading {
+    found: u16,
+    refusal: u16,
+    record: Record,
+    sample: Sample,
+}
+
+#[repr(C)]
+struct Converted {
     finite: u16,
     hundredths: i32,
 }
@@ -100,9 +151,11 @@ extern "C" {
     fn windshear_fresh() -> State;
     fn windshear_offer(state: State, sample: Sample) -> Offered;
     fn windshear_offer_lent(state: &mut State, sample: Sample) -> Answer;
-    fn windshear_hundredths(bits: u32) -> Hundredths;
+    fn windshear_hundredths(bits: u32) -> Converted;
     fn windshear_write_header(count: u32, buf: *mut u8, len: usize) -> u16;
     fn windshear_write_record(record: Record, buf: *mut u8, len: usize) -> u16;
+    fn windshear_test_file(file: *const u8, len: usize) -> FileTest;
+    fn windshear_read_record(file: *const u8, len: usize, place: usize) -> Reading;
     fn windshear_run(file: *const u8, file_len: usize, answers: *mut u8, len: usize) -> Outcome;
 }
 
@@ -121,6 +174,7 @@ impl State {
     }
 
     /// A sample offered in the lent form: the state is left as the one after it, or as it stood where the sample is refused.
+    /// A refused answer says nothing of the lamps: see [`Answer`].
     pub fn offer_lent(&mut self, sample: Sample) -> Answer {
         // SAFETY: the function is proved to be defined for every State and every Sample, and to leave a State.
         unsafe { windshear_offer_lent(self, sample) }
@@ -130,6 +184,18 @@ impl State {
 impl Default for State {
     fn default() -> State {
         State::fresh()
+    }
+}
+
+impl Answer {
+    /// The lamp that is lit; or the number that refused the sample, and the lamps are as they were.
+    pub fn lamp(&self) -> Result<Alert, u16> {
+        match (self.refusal, self.alert) {
+            (0, 0) => Ok(Alert::None),
+            (0, 1) => Ok(Alert::Amber),
+            (0, _) => Ok(Alert::Red),
+            (number, _) => Err(number),
+        }
     }
 }
 
@@ -151,6 +217,36 @@ pub fn write_header(count: u32, buf: &mut [u8]) -> u16 {
 pub fn write_record(record: &Record, buf: &mut [u8]) -> u16 {
     // SAFETY: as for `write_header`; the function is defined for every record, whatever its floats.
     unsafe { windshear_write_record(*record, buf.as_mut_ptr(), buf.len()) }
+}
+
+/// What [`run`] would answer of the file with an answer buffer of the right length, ten bytes a record, and how many records it has.
+pub fn test_file(file: &[u8]) -> FileTest {
+    // SAFETY: pointer and length are those of a slice; the function is proved to be defined for all contents and lengths, and writes nothing.
+    unsafe { windshear_test_file(file.as_ptr(), file.len()) }
+}
+
+/// The record at a place from 0, as the file has it, and the sample that a run takes it as. Other records of the file may be refused.
+///
+/// ```
+/// use windshear::{read_record, write_header, write_record, Record, Unread};
+///
+/// let record = Record { along: -0.0, airspeed: 140.0, height: 400, vs1: 10_000, ..Record::default() };
+/// let mut file = [0; 8 + 24];
+/// assert_eq!(write_header(1, &mut file[..8]), 0);
+/// assert_eq!(write_record(&record, &mut file[8..]), 0);
+/// let (read, sample) = read_record(&file, 0).unwrap();
+/// assert!(read == record && read.along.is_sign_negative() && sample.airspeed == 14_000);
+/// assert_eq!(read_record(&file, 1), Err(Unread::NoSuchPlace));
+/// assert_eq!(read_record(&file[..31], 0), Err(Unread::Refused(6)));
+/// ```
+pub fn read_record(file: &[u8], place: usize) -> Result<(Record, Sample), Unread> {
+    // SAFETY: as for `test_file`, and the function is defined for every place.
+    let reading = unsafe { windshear_read_record(file.as_ptr(), file.len(), place) };
+    match (reading.found, reading.refusal) {
+        (0, 0) => Err(Unread::NoSuchPlace),
+        (0, number) => Err(Unread::Refused(number)),
+        _ => Ok((reading.record, reading.sample)),
+    }
 }
 
 /// Runs a whole file from the fresh state: ten bytes a record into `answers`, or a refusal, and `answers` stays as it was.
@@ -178,4 +274,7 @@ const _: () = {
     assert!(size_of::<Offered>() == 840 && offset_of!(Offered, state) == 16);
     assert!(size_of::<Record>() == 24 && offset_of!(Record, height) == 12 && offset_of!(Record, deselect) == 23);
     assert!(size_of::<Outcome>() == 4 && offset_of!(Outcome, place) == 2);
+    assert!(size_of::<FileTest>() == 6 && offset_of!(FileTest, count) == 4);
+    assert!(size_of::<Reading>() == 68 && offset_of!(Reading, record) == 4 && offset_of!(Reading, sample) == 28);
+    assert!(size_of::<Converted>() == 8 && offset_of!(Converted, hundredths) == 4);
 };

@@ -8,3 +8,5 @@ pub mod Fields
 pub mod Starred
 pub mod RecordLaws
 pub mod RecordClaims
+pub mod ReadingLaws
+pub mod ReadingClaims

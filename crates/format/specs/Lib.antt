@@ -2,5 +2,6 @@ pub mod Float
 pub mod Record
 pub mod Header
 pub mod Refusal
+pub mod Reading
 pub mod Claims
 pub mod Starred

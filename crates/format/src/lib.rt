@@ -3,6 +3,7 @@ pub mod float;
 pub mod header;
 pub mod lent;
 pub mod raw;
+pub mod reading;
 pub mod records;
 pub mod words;
 

@@ -1,46 +1,58 @@
--- Demand 3, whole: both forms cite one definition, so a mixed list is a list in the plain form.
+-- Demand 3, whole: a history that meets the promises has the answers and states of its samples offered in the plain form.
 use mathlib.Core.Bool.{cond}
 use mathlib.Core.List.{List, [], _∷_, map}
 use mathlib.Core.Path.{_≡_, refl, ap, _∙_}
-use Prim.Native.Nat.{ℕ}
 use lib.Dec.{eqb}
-use Rattle.host.specs.Demand3.{Form, plain, lent, Offer, offeredIn, stateLeft, answerGiven, acceptedOf, alertShown, Demand3}
+use Rattle.host.specs.Demand3.{Form, plain, lent, Call, Promised, stateLeft, Meets, acceptedOf, alertShown, Demand3}
+use Rattle.host.specs.Lent.{LentPromise}
 use Rattle.runfile.proofs.RunClaims.{demand-3-run}
 use Rattle.unit.proofs.Claims.{states-pass, answers-by-rules, demand-3-lone}
 use Rattle.unit.specs.Claims.{stateAfter, answerTo, lastAlert, StatesPass, AnswersByRules, Demand3Lone}
 use Rattle.unit.specs.Rules.{refusal}
-use Rattle.unit.specs.Steps.{offerOf}
+use Rattle.unit.specs.Steps.{offerOf, PlainPromise}
+use Rattle.unit.specs.declared.Answer.{Answer}
+use Rattle.unit.specs.declared.Offered.{Offered}
 use Rattle.unit.specs.declared.Sample.{Sample}
 use Rattle.unit.specs.declared.State.{State}
 
-abbrev samples : List Offer → List Sample
-samples l = map (λ o. o .sample) l
+abbrev samples : List Call → List Sample
+samples l = map (λ c. c .sample) l
 
-either-form : (f : Form) (t : State) (s : Sample) → offeredIn f t s ≡ offerOf t s
-unfolding offeredIn
-either-form plain t s = refl
-either-form lent t s = refl
+-- what either form promises of its answer and of the state after
+said : (f : Form) (t : State) (s : Sample) (a : Answer) (u : State) → Promised f t s a u → (a ≡ offerOf t s .answer) × (u ≡ offerOf t s .state)
+unfolding Promised PlainPromise LentPromise
+said plain t s a u p = (ap (λ (r : Offered). r .answer) p, ap (λ (r : Offered). r .state) p)
+said lent t s a u p = p
 
-state-same : (l : List Offer) → stateLeft l ≡ stateAfter (samples l)
-unfolding stateLeft stateAfter
-state-same [] = refl
-state-same (o ∷ l) = ap (λ r. r .state) (either-form (o .form) (stateLeft l) (o .sample)) ∙ ap (λ t. offerOf t (o .sample) .state) (state-same l)
+-- and it can be kept
+kept : (f : Form) (t : State) (s : Sample) → Promised f t s (offerOf t s .answer) (offerOf t s .state)
+unfolding Promised PlainPromise LentPromise
+kept plain t s = refl
+kept lent t s = (refl, refl)
 
-answer-same : (o : Offer) (l : List Offer) → answerGiven o l ≡ answerTo (o .sample) (samples l)
-unfolding answerGiven answerTo
-answer-same o l = ap (λ r. r .answer) (either-form (o .form) (stateLeft l) (o .sample)) ∙ ap (λ t. offerOf t (o .sample) .answer) (state-same l)
+state-same : (l : List Call) → Meets l → stateLeft l ≡ stateAfter (samples l)
+unfolding Meets stateLeft stateAfter
+state-same [] m = refl
+state-same (c ∷ l) m = said (c .form) _ (c .sample) _ _ (m .0) .1 ∙ ap (λ t. offerOf t (c .sample) .state) (state-same l (m .1))
 
-alert-same : (l : List Offer) → alertShown l ≡ lastAlert (samples l)
-unfolding alertShown lastAlert
-alert-same [] = refl
-alert-same (o ∷ l) = ap (λ a. cond (eqb (refusal (o .sample)) 0) (a .alert) (alertShown l)) (answer-same o l) ∙ ap (λ n. cond (eqb (refusal (o .sample)) 0) (answerTo (o .sample) (samples l) .alert) n) (alert-same l)
+answer-same : (c : Call) (l : List Call) → Meets (c ∷ l) → c .answer ≡ answerTo (c .sample) (samples l)
+unfolding Meets answerTo
+answer-same c l m = said (c .form) _ (c .sample) _ _ (m .0) .0 ∙ ap (λ t. offerOf t (c .sample) .answer) (state-same l (m .1))
+
+alert-same : (l : List Call) → Meets l → alertShown l ≡ lastAlert (samples l)
+unfolding Meets alertShown lastAlert
+alert-same [] m = refl
+alert-same (c ∷ l) m =
+    ap (λ a. cond (eqb (refusal (c .sample)) 0) (a .alert) (alertShown l)) (answer-same c l m)
+    ∙ ap (λ n. cond (eqb (refusal (c .sample)) 0) (answerTo (c .sample) (samples l) .alert) n) (alert-same l (m .1))
 
 pub demand-3 : Demand3
-unfolding acceptedOf StatesPass AnswersByRules Demand3Lone
+unfolding Meets acceptedOf StatesPass AnswersByRules Demand3Lone
 demand-3 =
     record {
-      passing = λ l. rw (state-same l) (states-pass (samples l));
-      rules = λ before o. answer-same o before ∙ answers-by-rules (o .sample) (samples before);
-      lone = λ before o e. rw (alert-same before, answer-same o before) (demand-3-lone (samples before) (o .sample) e);
+      goes-on = λ before m f s. (_, _, (kept f (stateLeft before) s, m));
+      passing = λ l m. rw (state-same l m) (states-pass (samples l));
+      rules = λ c before m. answer-same c before m ∙ answers-by-rules (c .sample) (samples before);
+      lone = λ c before m e. rw (alert-same before (m .1), answer-same c before m) (demand-3-lone (samples before) (c .sample) e);
       run = demand-3-run;
     }

@@ -1,2 +1,3 @@
 pub mod Exported
+pub mod Lent
 pub mod Demand3

@@ -3,14 +3,18 @@ ghost use mathlib.Core.Path.{_≡_};
 ghost use lib.Ieee as Ieee;
 ghost use lib.Ieee.{binary32};
 ghost use lib.ListN.{length};
-ghost use Rattle.host.specs.Exported.{numberOf};
+ghost use Rattle.host.specs.Exported.{convertedNumbers};
+ghost use Rattle.host.specs.Lent.{LentPromise};
 ghost use Rattle.format.specs.Float.{convertedOf};
 ghost use Rattle.format.specs.Header.{writeHeaderRefusal, writtenHeader};
+ghost use Rattle.format.specs.Reading.{readingOf};
 ghost use Rattle.format.specs.Refusal.{writeRecordRefusal, writtenRecord};
-ghost use Rattle.runfile.specs.Run.{outcomeOf, writtenAnswers};
-ghost use Rattle.unit.specs.Steps.{freshState, offerOf};
+ghost use Rattle.runfile.specs.Run.{RunPromise, fileTestOf};
+ghost use Rattle.unit.specs.Steps.{freshState, PlainPromise};
 use format::Record;
 use format::float::Converted;
+use format::reading::Reading;
+use runfile::run::FileTest;
 use runfile::run::Outcome;
 use unit::Answer;
 use unit::Offered;
@@ -19,7 +23,7 @@ use unit::State;
 
 // The hundredths of a float, cut at a million either way; finite is 0 where it is not, and the hundredths are 0.
 #[repr(C)]
-pub struct Hundredths {
+pub struct ConvertedFloat {
     pub finite: u16,
     pub hundredths: i32,
 }
@@ -35,7 +39,7 @@ pub extern "C" fn windshear_fresh() -> State
 // A sample offered in the plain form: the answer, and the state after it.
 #[no_mangle]
 pub extern "C" fn windshear_offer(state: State, sample: Sample) -> Offered
-    ensures { λ r. ⌜ r ≡ offerOf state sample ⌝ }
+    ensures { λ r. ⌜ PlainPromise state sample (r .answer) (r .state) ⌝ }
 {
     state.offer(sample)
 }
@@ -43,36 +47,24 @@ pub extern "C" fn windshear_offer(state: State, sample: Sample) -> Offered
 // A sample offered in the lent form: the answer, and the lent state is left as the state after it; a refused sample leaves it as it stood.
 #[no_mangle]
 pub extern "C" fn windshear_offer_lent(state: &mut State, sample: Sample) -> Answer
-    ensures { λ r. ⌜ (r ≡ offerOf (now (state .entry)) sample .answer) × (now (state .exit) ≡ offerOf (now (state .entry)) sample .state) ⌝ }
+    ensures { λ r. ⌜ LentPromise (now (state .entry)) sample r (now (state .exit)) ⌝ }
 {
     let r = State::offer(*state, sample);
     *state = r.state;
     r.answer
 }
 
-// The lent form by value: the state is a local, and is lent for the call.
-pub fn offer_by_lending(state: State, sample: Sample) -> Offered
-    ensures plain { λ r. ⌜ r ≡ offerOf state sample ⌝ }
-{
-    let mut t = state;
-    let a = windshear_offer_lent(&mut t, sample);
-    Offered {
-        answer: a,
-        state: t,
-    }
-}
-
 // The hundredths that the float of a pattern becomes.
 #[no_mangle]
-pub extern "C" fn windshear_hundredths(bits: u32) -> Hundredths
-    ensures { λ r. ⌜ r ≡ numberOf (convertedOf (Ieee.ofBits binary32 bits)) ⌝ }
+pub extern "C" fn windshear_hundredths(bits: u32) -> ConvertedFloat
+    ensures { λ r. ⌜ r ≡ convertedNumbers (convertedOf (Ieee.ofBits binary32 bits)) ⌝ }
 {
     match format::float::hundredths(bits) {
-        Converted::Hundredths(n) => Hundredths {
+        Converted::Hundredths(n) => ConvertedFloat {
             finite: 1,
             hundredths: n,
         },
-        Converted::NotFinite => Hundredths {
+        Converted::NotFinite => ConvertedFloat {
             finite: 0,
             hundredths: 0,
         },
@@ -95,10 +87,26 @@ pub extern "C" fn windshear_write_record(record: Record, buf: &mut [u8]) -> u16
     format::records::write(record, buf)
 }
 
+// A file's own test: 1 to 6, then 11 to 20 with the first bad record's place; or the count of its records.
+#[no_mangle]
+pub extern "C" fn windshear_test_file(file: &[u8]) -> FileTest
+    ensures { λ r. ⌜ r ≡ fileTestOf (now (file .entry)) ⌝ }
+{
+    runfile::run::test_file(file)
+}
+
+// The record at a place, from 0, with its sample; or why there is none to read: 1 to 6, 11 to 20, or 0 where the file has no such place.
+#[no_mangle]
+pub extern "C" fn windshear_read_record(file: &[u8], place: usize) -> Reading
+    ensures { λ r. ⌜ r ≡ readingOf (now (file .entry)) place ⌝ }
+{
+    format::reading::record_at(file, place)
+}
+
 // A whole run: ten answer bytes a record; or the refusal with its place, and the buffer untouched.
 #[no_mangle]
 pub extern "C" fn windshear_run(file: &[u8], answers: &mut [u8]) -> Outcome
-    ensures { λ r. ⌜ (r ≡ outcomeOf (now (file .entry)) (length (now (answers .entry)))) × (now (answers .exit) ≡ writtenAnswers (now (file .entry)) (now (answers .entry))) ⌝ }
+    ensures { λ r. ⌜ RunPromise (now (file .entry)) (now (answers .entry)) r (now (answers .exit)) ⌝ }
 {
     runfile::run::run(file, answers)
 }

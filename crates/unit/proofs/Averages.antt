@@ -4,9 +4,10 @@ use mathlib.Core.Bool.{Bool, true, false, _||_}
 use mathlib.Core.List.{List, [], _∷_, _++_, map, List·Memᴰ, List·Memᴰ·head, List·Memᴰ·tail}
 use mathlib.Core.Path.{_≡_, refl, sym, ap, _∙_, subst}
 use Prim.Native.Nat.{ℕ, zero, suc, _+_, _*_, _≤_, _<_}
-use native.Mathlib.Nat.{zero-mul, le-of-mul-le-mul-right, lt-of-mul-lt-mul-left, mul-comm}
+use native.Mathlib.Nat.{zero-mul, le-of-mul-le-mul-right, lt-of-mul-lt-mul-left, mul-comm, mul-pos}
 use native.Mathlib.Omega.{arith}
-use lib.Dec.{T, lit<}
+use borrow.Author.Tests.{ltb-true}
+use lib.Dec.{T, ltb, lit<}
 use lib.IntN.{ℤ, pos, natAbs, _+ℤ_, _-ℤ_, _*ℤ_}
 use lib.ListN.{length, take, replicate, length-append, length-replicate}
 use lib.Seq.{length-take-le}
@@ -15,10 +16,11 @@ use Rattle.rounding.specs.Fraction.{Fraction, _over_, _+F_, _≤F_, _<F_, zeroF
 use Rattle.rounding.specs.Rounding.{nearest, roundAway}
 use Rattle.rounding.proofs.Difference.{up, down, any, nat, +D, -D, *D, eqD, leD, ltD, ofLe, ofLt, ofSize}
 use Rattle.rounding.proofs.Sums.{sum-error, sum-positive}
-use Rattle.unit.specs.Choice.{anyOf}
-use Rattle.unit.specs.Claims.{tolerance, tableValue, averageOf, Reaches, Below}
-use Rattle.unit.specs.Rules.{held, heldShear, exact, exactShear, entries, Window, lastOf, windowSum, average, metUp}
+use Rattle.unit.specs.Choice.{anyOf, every}
+use Rattle.unit.specs.Claims.{tolerance, tableValue, averageOf, Reaches, Below, PositiveDivisors}
+use Rattle.unit.specs.Rules.{held, heldShear, exact, entry, exactEntry, entries, Window, lastOf, windowSum, average, limit, metUp}
 use Rattle.unit.specs.declared.Sample.{Sample}
+use Rattle.unit.proofs.RangeLaws.{every-member}
 
 -- ════ Scaled sums ════
 
@@ -89,16 +91,21 @@ map-zeros [] zero = refl
 map-zeros [] (suc n) = ap (λ (t : List ℤ). pos 0 ∷ t) (map-zeros [] n)
 map-zeros (f ∷ l) n = ap (λ (t : List ℤ). hold f ∷ t) (map-zeros l n)
 
-held-is : (l : List Sample) → entries held l ≡ map hold (entries exact l)
-unfolding entries held heldShear exact
-held-is [] = refl
-held-is (s ∷ l) = ap (λ (t : List ℤ). held s l ∷ t) (held-is l)
+-- what enters the windows is what enters the exact averages, held
+entry-is : (s : Sample) (l : List Sample) → entry s l ≡ hold (exactEntry s l)
+unfolding entry exactEntry held heldShear exact
+entry-is s l = refl
 
--- a window of held shears is that of the exact ones, each held
-window-is : (n : ℕ) (l : List Sample) → windowSum n (entries held l) ≡ sumℤ (map hold (lastOf n zeroF (entries exact l)))
+entries-are : (l : List Sample) → entries entry l ≡ map hold (entries exactEntry l)
+unfolding entries
+entries-are [] = refl
+entries-are (s ∷ l) = rw (entry-is s l, entries-are l)
+
+-- a window's sum is that of the exact entries, each held
+window-is : (n : ℕ) (l : List Sample) → windowSum n (entries entry l) ≡ sumℤ (map hold (lastOf n zeroF (entries exactEntry l)))
 unfolding windowSum lastOf
 window-is n l =
-    rw (held-is l, map-zeros (entries exact l) n, map-take n (entries exact l ++ replicate n zeroF))
+    rw (entries-are l, map-zeros (entries exactEntry l) n, map-take n (entries exactEntry l ++ replicate n zeroF))
 
 length-last : (n : ℕ) (l : List Fraction) → length (lastOf n zeroF l) ≡ n
 unfolding lastOf
@@ -123,40 +130,47 @@ last-positive n l h = all-take n (l ++ replicate n zeroF) (all-zeros l n h)
 
 -- the exact sum of a window
 abbrev exact-sum : ℕ → List Sample → Fraction
-exact-sum n l = sumF (lastOf n zeroF (entries exact l))
+exact-sum n l = sumF (lastOf n zeroF (entries exactEntry l))
 
-module _ (l : List Sample) (ok : AllPositive (entries exact l)) where
-  near : (n : ℕ) → 2 * natAbs (windowSum n (entries held l) *ℤ pos (exact-sum n l .den) -ℤ exact-sum n l .num *ℤ pos 100000) ≤ n * exact-sum n l .den
+module _ (l : List Sample) (ok : AllPositive (entries exactEntry l)) where
+  near : (n : ℕ) → 2 * natAbs (windowSum n (entries entry l) *ℤ pos (exact-sum n l .den) -ℤ exact-sum n l .num *ℤ pos 100000) ≤ n * exact-sum n l .den
   near n =
       rw (window-is n l)
-      (rw (length-last n (entries exact l)) at (hold-error (lastOf n zeroF (entries exact l)) (last-positive n (entries exact l) ok)))
+      (rw (length-last n (entries exactEntry l)) at (hold-error (lastOf n zeroF (entries exactEntry l)) (last-positive n (entries exactEntry l) ok)))
 
   divisor : (n : ℕ) → 0 < exact-sum n l .den
-  divisor n = sum-positive (lastOf n zeroF (entries exact l)) (last-positive n (entries exact l) ok)
+  divisor n = sum-positive (lastOf n zeroF (entries exactEntry l)) (last-positive n (entries exactEntry l) ok)
 
-  reached-met : (w : Window) → Reaches l w → metUp (entries held l) w ≡ true
-  unfolding Reaches tableValue tolerance averageOf average metUp
+  -- the fractions of a table whose windows are not empty have positive divisors
+  pub table-positive : (table : List Window) → every (λ w. ltb 0 (w .samples)) table ≡ true → (w : Window) → List·Memᴰ w table → PositiveDivisors l w
+  unfolding PositiveDivisors averageOf average tableValue tolerance
+  table-positive table e w m =
+      let n : 0 < w .samples = ltb-true 0 (w .samples) (every-member _ table w e m) in
+      (mul-pos (divisor (w .samples)) n, (lit< tt, (lit< tt, ok)))
+
+  reached-met : (w : Window) → Reaches l w → metUp (entries entry l) w ≡ true
+  unfolding Reaches tableValue tolerance averageOf average metUp limit
   reached-met w h =
       let n = w .samples in
-      is-true _ (sum-reaches (windowSum n (entries held l)) (exact-sum n l .num) (exact-sum n l .den) n (w .value) (divisor n) (near n) h .le)
+      is-true _ (sum-reaches (windowSum n (entries entry l)) (exact-sum n l .num) (exact-sum n l .den) n (w .value) (divisor n) (near n) h .le)
 
-  below-unmet : (w : Window) → Below l w → metUp (entries held l) w ≡ false
-  unfolding Below tableValue tolerance averageOf average metUp
+  below-unmet : (w : Window) → Below l w → metUp (entries entry l) w ≡ false
+  unfolding Below tableValue tolerance averageOf average metUp limit
   below-unmet w h =
       let n = w .samples in
-      is-false (sum-below (windowSum n (entries held l)) (exact-sum n l .num) (exact-sum n l .den) n (w .value) (divisor n) (near n) h)
+      is-false (sum-below (windowSum n (entries entry l)) (exact-sum n l .num) (exact-sum n l .den) n (w .value) (divisor n) (near n) h)
 
   -- some window of a table reaches its value: some window is met; all lie below: none is
-  pub table-met : (table : List Window) (w : Window) → List·Memᴰ w table → Reaches l w → anyOf (metUp (entries held l)) table ≡ true
+  pub table-met : (table : List Window) (w : Window) → List·Memᴰ w table → Reaches l w → anyOf (metUp (entries entry l)) table ≡ true
   unfolding anyOf
-  table-met (x ∷ table) w (List·Memᴰ·head e) h = rw (ap (metUp (entries held l)) (sym e) ∙ reached-met w h)
-  table-met (x ∷ table) w (List·Memᴰ·tail m) h = rw (table-met table w m h) (or-true (metUp (entries held l) x))
+  table-met (x ∷ table) w (List·Memᴰ·head e) h = rw (ap (metUp (entries entry l)) (sym e) ∙ reached-met w h)
+  table-met (x ∷ table) w (List·Memᴰ·tail m) h = rw (table-met table w m h) (or-true (metUp (entries entry l) x))
     where
       or-true : (b : Bool) → (b || true) ≡ true
       or-true true = refl
       or-true false = refl
 
-  pub table-unmet : (table : List Window) → ((w : Window) → List·Memᴰ w table → Below l w) → anyOf (metUp (entries held l)) table ≡ false
+  pub table-unmet : (table : List Window) → ((w : Window) → List·Memᴰ w table → Below l w) → anyOf (metUp (entries entry l)) table ≡ false
   unfolding anyOf
   table-unmet [] f = refl
   table-unmet (x ∷ table) f =

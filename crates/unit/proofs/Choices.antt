@@ -1,19 +1,29 @@
 -- Laws of the choices and comparisons that the rules are written with.
 use mathlib.Core.Path.{_≡_, refl, sym, subst}
-use mathlib.Core.Bool.{Bool, true, false, not, cond}
-use Prim.Native.Nat.{ℕ}
+use mathlib.Core.Bool.{Bool, true, false, not, _&&_, and-eq-true-iff, cond}
+use Prim.Native.Nat.{ℕ, suc}
+use native.Mathlib.Nat.{suc-ne-zero}
 use native.Mathlib.Omega.{arith}
 use borrow.Author.Tests.{lt-ltb, le-ltb, leb-true, leb-false}
 use lib.Dec.{T, ltb, leb}
 use lib.IntN.{ℤ, pos, negsuc}
 use lib.Signed.{ltZ, leZ, _≤ℤ_, _<ℤ_, ≤ℤ-refl, ltZ-no}
 use Rattle.rounding.proofs.Difference.{any, leD, ofLe, ofLt}
-use Rattle.unit.specs.Choice.{smaller, larger}
+use Rattle.unit.specs.Choice.{firstOf, smaller, larger}
 
 -- what holds of each of two, where the test picks it, holds of the one that is picked
 pub cond-has {ℓ} : {A : Type ℓ} (P : A → Type 0) (t : Bool) {a b : A} → (t ≡ true → P a) → (t ≡ false → P b) → P (cond t a b)
 cond-has P true f g = f refl
 cond-has P false f g = g refl
+
+-- both halves of a test
+pub both-true : (a b : Bool) → (a && b) ≡ true → (a ≡ true) × (b ≡ true)
+both-true a b = and-eq-true-iff a b .0
+
+-- no number of a test and what comes later: it held, and nothing later is refused
+pub passed : (ok : Bool) (n later : ℕ) → firstOf ok (suc n) later ≡ 0 → (ok ≡ true) × (later ≡ 0)
+passed true n later e = (refl, e)
+passed false n later e = absurd (suc-ne-zero n e)
 
 -- the one order by the other
 ltb-not : (a b : ℕ) → ltb a b ≡ not (leb b a)

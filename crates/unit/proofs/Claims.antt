@@ -15,22 +15,22 @@ use lib.Signed.{leZ, _≤ℤ_, leZ-yes}
 use Rattle.rounding.specs.Fraction.{AllPositive}
 use Rattle.rounding.proofs.Difference.{any, nat, leD, ofSize}
 use Rattle.rounding.proofs.Fits.{exact, minus, size-ge}
-use Rattle.unit.specs.Choice.{neg, within, same, anyOf, every}
-use Rattle.unit.specs.Claims.{stateAfter, answerTo, accepted, StatesPass, LeftPasses, shows, AnswersByRules, RefusedIsNothing, Reaches, Below, lastAlert, Demand3At, Demand3Lone}
+use Rattle.unit.specs.Choice.{neg, firstOf, within, same, anyOf, every}
+use Rattle.unit.specs.Claims.{stateAfter, answerTo, accepted, StatesPass, LeftPasses, shows, AnswersByRules, RefusedIsNothing, Reaches, Below, PositiveDivisors, lastAlert, Demand3At, Demand3Lone}
 use Rattle.unit.specs.Rules as rules
-use Rattle.unit.specs.Rules.{refusal, change, exactShear, held, entries, Window, windows, inBand, lastOf, metUp, condition, redCondition, litFor, redFor, redLit, amberFor, amberLit, redComesOn, voiceFor, guidance, Guidance, off, on, isOn, commandOf, guidanceBy}
-use Rattle.unit.specs.Steps.{freshState, shearOf, pushed, windowsOf, lampsOf, voiceOf, guideOf, pitchOf, passes, refusedOf, refusalOf, offerOf, acceptOf, guideNext}
+use Rattle.unit.specs.Rules.{ranges, inside, refusal, change, exactShear, held, entry, exactEntry, entries, Window, windows, inBand, lastOf, metUp, condition, redCondition, litFor, redFor, redLit, amberFor, amberLit, redComesOn, voiceFor, guidance, Guidance, off, on, isOn, commandOf, guidanceBy}
+use Rattle.unit.specs.Steps.{freshState, shearOf, entryOf, pushed, windowsOf, lampsOf, voiceOf, guideOf, pitchOf, passes, refusedOf, refusalOf, offerOf, acceptOf, guideNext}
 use Rattle.unit.specs.declared.Answer.{Answer}
 use Rattle.unit.specs.declared.Offered.{Offered}
 use Rattle.unit.specs.declared.Sample.{Sample}
 use Rattle.unit.specs.declared.State.{State}
 use Rattle.unit.specs.declared.pitch.Guide.{Guide}
-use Rattle.unit.proofs.Averages.{table-met, table-unmet}
-use Rattle.unit.proofs.Choices.{cond-has}
+use Rattle.unit.proofs.Averages.{table-positive, table-met, table-unmet}
+use Rattle.unit.proofs.Choices.{cond-has, both-true, passed}
 use Rattle.unit.proofs.Follow.{stateOf, toGuide, countOf, heldOf, lastAlong, lastMode, seenOf, accept-follows, guide-next, not-zero}
 use Rattle.unit.proofs.HeldShear.{shear-le}
 use Rattle.unit.proofs.PitchLaws.{lamp-le, unless-le, voice-le, count-le, command-ge, command-le, command-cap}
-use Rattle.unit.proofs.RangeLaws.{bounds, size-le, no-number, Fields, in-range-fields, in-range, Passing, passing, passes-of}
+use Rattle.unit.proofs.RangeLaws.{bounds, inside-bounds, size-le, Fields, in-range-fields, in-range, Passing, passing, passes-of}
 
 -- ════ Accepted samples ════
 
@@ -82,34 +82,30 @@ held-le s l h =
     let r = in-range s (h .0) in
     shear-le (change s l) (s .vertical) (s .airspeed) (change-le s l h) (r .vertical-le) (size-ge (s .airspeed) (r .airspeed-ge))
 
-entries-fit : (l : List Sample) → AllAccepted l → every fits (entries held l) ≡ true
+entry-le : (s : Sample) (l : List Sample) → AllAccepted (s ∷ l) → natAbs (entry s l) ≤ 50000000
+unfolding entry
+entry-le s l h = held-le s l h
+
+entries-fit : (l : List Sample) → AllAccepted l → every fits (entries entry l) ≡ true
 unfolding every entries
 entries-fit [] h = refl
-entries-fit (s ∷ l) h = rw (size-fits (held s l) (held-le s l h)) (entries-fit l (h .1))
-
--- both halves of a test
-halves : (a b : Bool) → (a && b) ≡ true → (a ≡ true) × (b ≡ true)
-halves true b e = (refl, e)
-halves false b e = let z : _≡_ {A = ℕ} 0 1 = cc in absurd (zero-one z)
-  where
-    zero-one : _≡_ {A = ℕ} 0 1 → ⊥
-    zero-one z = omega arith
+entries-fit (s ∷ l) h = rw (size-fits (entry s l) (entry-le s l h)) (entries-fit l (h .1))
 
 zeros-fit : (e : List ℤ) (n : ℕ) → every fits e ≡ true → every fits (e ++ replicate n (pos 0)) ≡ true
 unfolding every within
 zeros-fit [] zero h = refl
 zeros-fit [] (suc n) h = zeros-fit [] n h
-zeros-fit (x ∷ e) n h = let t = halves (fits x) (every fits e) h in rw (t .0) (zeros-fit e n (t .1))
+zeros-fit (x ∷ e) n h = let t = both-true (fits x) (every fits e) h in rw (t .0) (zeros-fit e n (t .1))
 
 take-fit : (n : ℕ) (e : List ℤ) → every fits e ≡ true → every fits (take n e) ≡ true
 unfolding every
 take-fit zero e h = refl
 take-fit (suc n) [] h = refl
-take-fit (suc n) (x ∷ e) h = let t = halves (fits x) (every fits e) h in rw (t .0) (take-fit n e (t .1))
+take-fit (suc n) (x ∷ e) h = let t = both-true (fits x) (every fits e) h in rw (t .0) (take-fit n e (t .1))
 
 held-fits : (l : List Sample) → AllAccepted l → every fits (heldOf l) ≡ true
 unfolding lastOf
-held-fits l h = take-fit 200 (entries held l ++ replicate 200 (pos 0)) (zeros-fit (entries held l) 200 (entries-fit l h))
+held-fits l h = take-fit 200 (entries entry l ++ replicate 200 (pos 0)) (zeros-fit (entries entry l) 200 (entries-fit l h))
 
 record GuideFits (l : List Sample) : Type 0 where
   count : countOf (guidance l) ≤ 600
@@ -117,7 +113,7 @@ record GuideFits (l : List Sample) : Type 0 where
   high : commandOf (guidance l) ≤ℤ pos 27000
 
 guide-fits : (l : List Sample) → AllAccepted l → GuideFits l
-unfolding guidance guidanceBy commandOf
+unfolding ranges guidance guidanceBy commandOf
 guide-fits [] h = record { count = lit≤ tt; low = leZ-yes tt; high = leZ-yes tt }
 guide-fits (s ∷ l) h =
     let g = guide-fits l (h .1) in
@@ -125,18 +121,18 @@ guide-fits (s ∷ l) h =
     let comes = eqb (min (redFor (s ∷ l)) 60) 1 in
     let e = guide-next s l in
     record {
-      count = subst (λ (r : Guide). r .count ≤ 600) e (count-le (toGuide (guidance l)) s comes (g .count));
-      low = subst (λ (r : Guide). neg 30000 ≤ℤ r .command) e (command-ge (toGuide (guidance l)) s comes (g .low) (bounds (f .pitch-in) .0) (bounds (f .stall-in) .0));
+      count = subst (λ (r : Guide). r .count ≤ 600) e (count-le (toGuide (guidance l)) s comes);
+      low = subst (λ (r : Guide). neg 30000 ≤ℤ r .command) e (command-ge (toGuide (guidance l)) s comes (g .low) (inside-bounds (f .pitch-in) .0) (inside-bounds (f .stall-in) .0));
       high = subst (λ (r : Guide). r .command ≤ℤ pos 27000) e (command-le (toGuide (guidance l)) s comes);
     }
 
-along-fits : (l : List Sample) → AllAccepted l → within (neg 20000) (lastAlong l) (pos 20000) ≡ true
-unfolding within
+along-fits : (l : List Sample) → AllAccepted l → inside (ranges .along) (lastAlong l) ≡ true
+unfolding inside ranges within
 along-fits [] h = refl
 along-fits (s ∷ l) h = in-range-fields s (h .0) .along-in
 
-mode-fits : (l : List Sample) → AllAccepted l → within (pos 0) (lastMode l) (pos 1) ≡ true
-unfolding within
+mode-fits : (l : List Sample) → AllAccepted l → inside (ranges .mode) (lastMode l) ≡ true
+unfolding inside ranges within
 mode-fits [] h = refl
 mode-fits (s ∷ l) h = in-range-fields s (h .0) .mode-in
 
@@ -170,11 +166,11 @@ at-most : {n k : ℕ} → n ≤ k → k ≤ 600 → n ≤ 600
 at-most h k = omega (arith, h, k)
 
 next-passing : (t : State) (s : Sample) → Passing t → refusal s ≡ 0 → Passing (acceptOf t s .state)
-unfolding acceptOf windowsOf pushed lampsOf voiceOf pitchOf guideOf shearOf every
+unfolding ranges acceptOf entryOf windowsOf pushed lampsOf voiceOf pitchOf guideOf shearOf every
 next-passing t s p h =
     let f = in-range-fields s h in
     let r = in-range s h in
-    let wind = size-le 20000 (bounds (p .along-in)) tt tt in
+    let wind = size-le 20000 (inside-bounds (p .along-in)) tt tt in
     let turn =
     cond-has (λ (x : ℤ). natAbs x ≤ 40000) (ltb 0 (t .core .seen)) (λ k. minus (exact (s .along) (r .along-le)) (exact (t .core .along) wind) .le) (λ k. lit≤ tt)
     in
@@ -185,8 +181,8 @@ next-passing t s p h =
       red-le = at-most (lamp-le _ _) (lit≤ tt);
       amber-le = at-most (unless-le _ _) (at-most (lamp-le _ _) (lit≤ tt));
       voice-le = at-most (voice-le _ _) (lit≤ tt);
-      guidance-le = count-le _ s _ (p .guidance-le);
-      command-in = within-of (command-ge _ s _ (bounds (p .command-in) .0) (bounds (f .pitch-in) .0) (bounds (f .stall-in) .0)) (command-le _ s _);
+      guidance-le = count-le _ s _;
+      command-in = within-of (command-ge _ s _ (bounds (p .command-in) .0) (inside-bounds (f .pitch-in) .0) (inside-bounds (f .stall-in) .0)) (command-le _ s _);
       along-in = f .along-in;
       mode-in = f .mode-in;
     }
@@ -194,8 +190,8 @@ next-passing t s p h =
 pub left-passes : LeftPasses
 unfolding LeftPasses offerOf refusalOf
 left-passes t s e =
-    let b = no-number (passes t) (refusal s) e in
-    rw (eq-eqb (cond (passes t) (refusal s) 8) 0 e) (passes-of (acceptOf t s .state) (next-passing t s (passing t (b .0)) (b .1)))
+    let b = passed (passes t) 7 (refusal s) e in
+    rw (eq-eqb (firstOf (passes t) 8 (refusal s)) 0 e) (passes-of (acceptOf t s .state) (next-passing t s (passing t (b .0)) (b .1)))
 
 -- ════ The claims on states and answers ════
 
@@ -256,8 +252,8 @@ refused-is-nothing before later bad next h =
 
 -- ════ Demand 3 ════
 
-exact-positive : (l : List Sample) → AllAccepted l → AllPositive (entries rules.exact l)
-unfolding entries rules.exact exactShear
+exact-positive : (l : List Sample) → AllAccepted l → AllPositive (entries exactEntry l)
+unfolding entries exactEntry rules.exact exactShear
 exact-positive [] h = tt
 exact-positive (s ∷ l) h =
     let a = size-ge (s .airspeed) (in-range s (h .0) .airspeed-ge) in
@@ -316,7 +312,7 @@ stays-dark : (s : Sample) (l : List Sample) → redLit l ≡ false → redCondit
 unfolding redLit
 stays-dark s l d e = let z : redFor (s ∷ l) ≡ 0 = red-step s l ∙ rw (e, d) in rw z
 
-condition-in : (s : Sample) (l : List Sample) → redCondition (s ∷ l) ≡ (inBand s && anyOf (metUp (entries held (s ∷ l))) windows)
+condition-in : (s : Sample) (l : List Sample) → redCondition (s ∷ l) ≡ (inBand s && anyOf (metUp (entries entry (s ∷ l))) windows)
 unfolding redCondition condition
 condition-in s l = refl
 
@@ -339,20 +335,24 @@ module _ (before : List Sample) (s : Sample) (e : refusal s ≡ 0) where
   alert-is : answerTo s before .alert ≡ shows s (accepted before) .alert
   alert-is = ap (λ a. a .alert) (answer-is s before e)
 
-  positive : AllPositive (entries rules.exact (s ∷ accepted before))
-  positive = exact-positive (s ∷ accepted before) (e, accepted-all before)
+  positive-entries : AllPositive (entries exactEntry (s ∷ accepted before))
+  positive-entries = exact-positive (s ∷ accepted before) (e, accepted-all before)
+
+  positive : (w : Window) → List·Memᴰ w windows → PositiveDivisors (s ∷ accepted before) w
+  unfolding windows every
+  positive = table-positive (s ∷ accepted before) positive-entries windows refl
 
   lit : (w : Window) → List·Memᴰ w windows → inBand s ≡ true → Reaches (s ∷ accepted before) w → eqb (answerTo s before .alert) 2 ≡ true
   lit w m b h =
       eq-eqb _ 2 (alert-is ∙ red-two s (accepted before) (lit-by s (accepted before)
-      (condition-in s (accepted before) ∙ rw (b, table-met (s ∷ accepted before) positive windows w m h))))
+      (condition-in s (accepted before) ∙ rw (b, table-met (s ∷ accepted before) positive-entries windows w m h))))
 
   dark : eqb (lastAlert before) 2 ≡ false → (inBand s ≡ false) ⊎ ((w : Window) → List·Memᴰ w windows → Below (s ∷ accepted before) w)
       → eqb (answerTo s before .alert) 2 ≡ false
   dark d why =
       ne-eqb _ 2 (λ two. dark-not s (accepted before)
       (stays-dark s (accepted before) (two-red (accepted before) (λ k. eqb-false _ 2 d (last-is before ∙ k)))
-      (condition-in s (accepted before) ∙ ⊎-elim (λ b. rw b) (λ f. rw (table-unmet (s ∷ accepted before) positive windows f) (and-false (inBand s))) why))
+      (condition-in s (accepted before) ∙ ⊎-elim (λ b. rw b) (λ f. rw (table-unmet (s ∷ accepted before) positive-entries windows f) (and-false (inBand s))) why))
       (sym alert-is ∙ two))
     where
       and-false : (b : Bool) → (b && false) ≡ false
@@ -368,7 +368,7 @@ module _ (before : List Sample) (s : Sample) (e : refusal s ≡ 0) where
 
 pub demand-3-lone : Demand3Lone
 unfolding Demand3Lone
-demand-3-lone before s e = record { lit = lit before s e; dark = dark before s e; capped = capped before s e }
+demand-3-lone before s e = record { positive = positive before s e; lit = lit before s e; dark = dark before s e; capped = capped before s e }
 
 -- ════ What is shown fits its bytes ════
 

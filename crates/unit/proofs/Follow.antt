@@ -15,8 +15,8 @@ use native.Mathlib.Decide.{decLt}
 use Rattle.rounding.specs.Fraction.{sumℤ}
 use Rattle.unit.specs.Choice.{within, same, smaller, anyOf}
 use Rattle.unit.specs.Claims.{shows}
-use Rattle.unit.specs.Rules.{change, held, entries, row, windows, lastOf, windowSum, metUp, metDown, inBand, condition, redCondition, amberCondition, litFor, redFor, redLit, redComesOn, amberFor, amberLit, modeChange, voiceFor, cycle, voice, counted, cap, towards, Guidance, off, on, guided, guidanceBy, guidance, isOn, commandOf}
-use Rattle.unit.specs.Steps.{pushed, sumsOf, metOf, shearOf, windowsOf, lampNext, unlessLit, lampsOf, changedOf, keptOf, voiceNext, voiceOf, noGuide, startedOf, continuedOf, guideNext, guideOf, pitchOf, alertOf, shownOf, answerOf, acceptOf}
+use Rattle.unit.specs.Rules.{change, held, entry, entries, row, windows, lastOf, windowSum, metUp, metDown, inBand, condition, redCondition, amberCondition, litFor, redFor, redLit, redComesOn, amberFor, amberLit, modeChange, voiceFor, cycle, voice, counted, cap, towards, Guidance, off, on, guided, guidanceBy, guidance, isOn, commandOf}
+use Rattle.unit.specs.Steps.{pushed, sumsOf, sumList, reached, someReached, metOf, shearOf, entryOf, windowsOf, lampNext, unlessLit, lampsOf, changedOf, keptOf, voiceNext, voiceOf, noGuide, startedOf, continuedOf, guideNext, guideOf, pitchOf, alertOf, shownOf, answerOf, acceptOf}
 use Rattle.unit.specs.declared.Offered.{Offered}
 use Rattle.unit.specs.declared.Sample.{Sample}
 use Rattle.unit.specs.declared.State.{State}
@@ -49,7 +49,7 @@ made h along mode seen red amber voice g =
     record { held = h; core = record { along = along; mode = mode; command = g .command; seen = seen; red = red; amber = amber; voice = voice; guidance = g .count } }
 
 abbrev pub heldOf : List Sample → List ℤ
-heldOf l = lastOf 200 (pos 0) (entries held l)
+heldOf l = lastOf 200 (pos 0) (entries entry l)
 
 unfoldable pub stateOf : List Sample → State
 stateOf l =
@@ -61,6 +61,10 @@ shear-follows : (s : Sample) (l : List Sample) → shearOf (stateOf l) s ≡ hel
 unfolding shearOf stateOf held change
 shear-follows s [] = refl
 shear-follows s (last ∷ l) = refl
+
+entry-follows : (s : Sample) (l : List Sample) → entryOf (stateOf l) s ≡ entry s l
+unfolding entryOf entry
+entry-follows s l = shear-follows s l
 
 push-follows : (e : List ℤ) (x : ℤ) → pushed (lastOf 200 (pos 0) e) x ≡ lastOf 200 (pos 0) (x ∷ e)
 unfolding pushed lastOf
@@ -184,8 +188,8 @@ unfolding guideNext noGuide startedOf continuedOf guided commandOf
 guide-follows g s comes = go (same (s .deselect) (pos 1)) g comes
   where
     later : (n m : ℕ) (c : ℤ) → m ≡ n
-        → cond (eqb m 600) noGuide (record { count = m + 1; command = c }) ≡ toGuide (cond (eqb n 600) off (on n c))
-    later n m c e = rw e (end (eqb n 600))
+        → cond (leb 600 m) noGuide (record { count = m + 1; command = c }) ≡ toGuide (cond (leb 600 n) off (on n c))
+    later n m c e = rw e (end (leb 600 n))
       where
         end : (t : Bool) → cond t noGuide (record { count = n + 1; command = c }) ≡ toGuide (cond t off (on n c))
         end true = refl
@@ -213,25 +217,25 @@ alert-follows r n = rw (lit-follows r 60 (lit≤ tt), lit-follows n 60 (lit≤ t
 
 -- the windows that the state holds are met as those of all the entries
 met-follows : (e : List ℤ) → (metOf true (sumsOf (lastOf 200 (pos 0) e)) ≡ anyOf (metUp e) windows) × (metOf false (sumsOf (lastOf 200 (pos 0) e)) ≡ anyOf (metDown e) windows)
-unfolding metOf sumsOf metUp metDown windows anyOf
+unfolding metOf someReached reached sumList sumsOf metUp metDown windows anyOf
 met-follows e = (
   rw (window-follows e 200 0 refl, window-follows e 180 20 refl, window-follows e 160 40 refl, window-follows e 140 60 refl, window-follows e 120 80 refl, window-follows e 100 100 refl),
   rw (window-follows e 200 0 refl, window-follows e 180 20 refl, window-follows e 160 40 refl, window-follows e 140 60 refl, window-follows e 120 80 refl, window-follows e 100 100 refl),
 )
 
 module _ (s : Sample) (l : List Sample) where
-  entered : windowsOf (stateOf l) s (held s l)
+  entered : windowsOf (stateOf l) s (entry s l)
       ≡ made (heldOf (s ∷ l)) (s .along) (lastMode l) (seenOf l) (min (redFor l) 60) (min (amberFor l) 60) (min (voiceFor redComesOn l) 73) (toGuide (guidance l))
   unfolding windowsOf stateOf entries
-  entered = rw (push-follows (entries held l) (held s l))
+  entered = rw (push-follows (entries entry l) (entry s l))
 
   red-holds : (within (pos 50) (s .height) (pos 1000) && metOf true (sumsOf (heldOf (s ∷ l)))) ≡ redCondition (s ∷ l)
   unfolding redCondition condition inBand
-  red-holds = rw (met-follows (entries held (s ∷ l)) .0)
+  red-holds = rw (met-follows (entries entry (s ∷ l)) .0)
 
   amber-holds : (within (pos 50) (s .height) (pos 1000) && metOf false (sumsOf (heldOf (s ∷ l)))) ≡ amberCondition (s ∷ l)
   unfolding amberCondition condition inBand
-  amber-holds = rw (met-follows (entries held (s ∷ l)) .1)
+  amber-holds = rw (met-follows (entries entry (s ∷ l)) .1)
 
   red-next : lampNext (min (redFor l) 60) (redCondition (s ∷ l)) ≡ min (redFor (s ∷ l)) 60
   unfolding redFor litFor
@@ -275,4 +279,4 @@ module _ (s : Sample) (l : List Sample) where
   -- an accepted sample's answer, and the state that it leaves
   pub accept-follows : acceptOf (stateOf l) s ≡ record { answer = shows s l; state = stateOf (s ∷ l) }
   unfolding acceptOf
-  accept-follows = rw (shear-follows s l, entered, lit, spoken, pitched, answered)
+  accept-follows = rw (shear-follows s l, entry-follows s l, entered, lit, spoken, pitched, answered)

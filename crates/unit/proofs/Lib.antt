@@ -1,6 +1,7 @@
 pub mod Tests
 pub mod Choices
 pub mod RangeLaws
+pub mod Promises
 pub mod WindowLaws
 pub mod HeldShear
 pub mod ValidLaws

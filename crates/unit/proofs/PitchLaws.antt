@@ -1,11 +1,11 @@
 -- Bounds of the lamps' and the voice's counters and of escape guidance after a sample, which refusal 8 asks of a state; and the cap.
 use mathlib.Core.Path.{_≡_, refl}
 use mathlib.Core.Bool.{Bool, true, false, cond}
-use Prim.Native.Nat.{ℕ, _+_, _-_, _≤_, zero-le}
+use Prim.Native.Nat.{ℕ, _+_, _-_, _≤_, _<_, zero-le}
 use native.Mathlib.Nat.{le-refl}
 use native.Mathlib.Omega.{arith}
-use borrow.Author.Tests.{ltb-true, eqb-false}
-use lib.Dec.{ltb, eqb}
+use borrow.Author.Tests.{ltb-true, leb-false}
+use lib.Dec.{ltb, leb, eqb}
 use lib.IntN.{ℤ, pos, _-ℤ_}
 use lib.Signed.{ltZ, _≤ℤ_, leZ-yes}
 use Rattle.rounding.proofs.Difference.{any, nat, +D, leD, ofLe}
@@ -47,21 +47,21 @@ pub counted-le : (s : Sample) (n : ℕ) → counted s n ≤ n + 1
 unfolding counted
 counted-le s n = cond-le (climbing s) (n + 1) (λ e. le-refl (n + 1)) (λ e. zero-le)
 
--- after a sample guidance is off, or has started, or goes on with a count that has not reached 600
+-- after a sample guidance is off, or has started, or goes on with a count below 600
 next-has : (P : Guide → Type 0) (g : Guide) (s : Sample) (comes : Bool) → P noGuide → P (startedOf s)
-    → ((counted s (g .count - 1) ≡ 600 → ⊥) → P (record { count = counted s (g .count - 1) + 1; command = smaller (towards (g .command)) (cap s) }))
+    → (counted s (g .count - 1) < 600 → P (record { count = counted s (g .count - 1) + 1; command = smaller (towards (g .command)) (cap s) }))
     → P (guideNext g s comes)
 unfolding guideNext continuedOf
 next-has P g s comes none start more =
     cond-has P (same (s .deselect) (pos 1)) (λ e. none)
     (λ e.
     cond-has P (eqb (g .count) 0) (λ f. cond-has P comes (λ k. start) (λ k. none))
-    (λ f. cond-has P (eqb (counted s (g .count - 1)) 600) (λ k. none) (λ k. more (eqb-false _ _ k))))
+    (λ f. cond-has P (leb 600 (counted s (g .count - 1))) (λ k. none) (λ k. more (leb-false 600 _ k))))
 
-pub count-le : (g : Guide) (s : Sample) (comes : Bool) → g .count ≤ 600 → guideNext g s comes .count ≤ 600
+pub count-le : (g : Guide) (s : Sample) (comes : Bool) → guideNext g s comes .count ≤ 600
 unfolding noGuide startedOf
-count-le g s comes h =
-    next-has (λ (r : Guide). r .count ≤ 600) g s comes zero-le (omega (arith, counted-le s 0)) (λ k. omega (arith, k, counted-le s (g .count - 1)))
+count-le g s comes =
+    next-has (λ (r : Guide). r .count ≤ 600) g s comes zero-le (omega (arith, counted-le s 0)) (λ k. omega (arith, k))
 
 towards-ge : (c : ℤ) → neg 30000 ≤ℤ c → neg 30000 ≤ℤ towards c
 unfolding towards

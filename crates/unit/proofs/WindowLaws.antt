@@ -14,9 +14,7 @@ use lib.Signed.{leZ, leZ-yes}
 use Rattle.rounding.specs.Fraction.{sumℤ}
 use Rattle.rounding.proofs.Difference.{any, nat, negD, -D, leD, ofLe}
 use Rattle.rounding.proofs.Fits.{size-add}
-use Rattle.unit.specs.Choice.{anyOf}
-use Rattle.unit.specs.Rules.{lastOf, windowSum, windows, metUp, metDown}
-use Rattle.unit.specs.Steps.{sumsOf, metOf}
+use Rattle.unit.specs.Rules.{lastOf, windowSum}
 
 -- where the newest i are x and the newest i - 1 of l, and v, the next of l, is set at i, one more is
 pub push-more : (x : ℤ) (l n : List ℤ) (i : ℕ) {v : ℤ} → 0 < i → i < length l → i < length n → take i n ≡ x ∷ take (i - 1) l
@@ -60,12 +58,3 @@ le-turn x y =
     same-test (leZ x (pos 0 -ℤ y)) (leZ y (negℤ x))
     (λ t. leD (any y) (negD (any x)) (omega (arith, ofLe (leZ-yes t) (any x) (-D (nat 0) (any y)))) .le)
     (λ t. leD (any x) (-D (nat 0) (any y)) (omega (arith, ofLe (leZ-yes t) (any y) (negD (any x)))) .le)
-
--- the code's six limits are the windows' samples × value
-pub met-up : (held : List ℤ) → metOf true (sumsOf held) ≡ anyOf (metUp held) windows
-unfolding metOf sumsOf metUp windows anyOf
-met-up held = refl
-
-pub met-down : (held : List ℤ) → metOf false (sumsOf held) ≡ anyOf (metDown held) windows
-unfolding metOf sumsOf metDown windows anyOf
-met-down held = refl

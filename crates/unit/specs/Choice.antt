@@ -9,6 +9,10 @@ use lib.Signed.{leZ, ltZ}
 abbrev pub neg : ℕ → ℤ
 neg n = negℤ (pos n)
 
+-- the number of what failed, or what comes later
+abbrev pub firstOf : Bool → ℕ → ℕ → ℕ
+firstOf ok n later = cond ok later n
+
 -- from lo to hi, both ends in
 unfoldable pub within : ℤ → ℤ → ℤ → Bool
 within lo x hi = leZ lo x && leZ x hi

@@ -9,33 +9,73 @@ use lib.IntN.{ℤ, pos, negℤ, natAbs, _+ℤ_, _-ℤ_, _*ℤ_}
 use lib.ListN.{take, replicate}
 use lib.Signed.{leZ, ltZ}
 use Rattle.rounding.specs.Fraction.{Fraction, _over_, _-F_, zeroF, sumF, timesF, divideF, roundF, sumℤ}
-use Rattle.unit.specs.Choice.{neg, within, same, smaller, larger, anyOf}
+use Rattle.unit.specs.Choice.{neg, firstOf, within, same, smaller, larger, anyOf}
 use Rattle.unit.specs.declared.Sample.{Sample}
 
 -- ════ A sample ════
 
--- whether each of the ten fields is accepted, in table order
-unfoldable pub inRange : Sample → List Bool
-inRange s =
-    within (neg 20000) (s .along) (pos 20000)
-    ∷ within (neg 10000) (s .vertical) (pos 10000)
-    ∷ within (pos 6000) (s .airspeed) (pos 60000)
-    ∷ within (neg 20) (s .height) (pos 5000)
-    ∷ within (neg 30000) (s .pitch) (pos 30000)
-    ∷ within (neg 10000) (s .stall) (pos 30000)
-    ∷ within (neg 10000) (s .climb) (pos 10000)
-    ∷ within (pos 5000) (s .vs1) (pos 30000)
-    ∷ within (pos 0) (s .mode) (pos 1)
-    ∷ within (pos 0) (s .deselect) (pos 1)
+-- a range of accepted values, both ends in
+pub record Range : Type 0 where
+  pub least : ℤ
+  pub greatest : ℤ
+
+-- one for each of the ten fields
+pub record Ranges : Type 0 where
+  pub along : Range
+  pub vertical : Range
+  pub airspeed : Range
+  pub height : Range
+  pub pitch : Range
+  pub stall : Range
+  pub climb : Range
+  pub vs1 : Range
+  pub mode : Range
+  pub deselect : Range
+
+abbrev pub span : ℤ → ℤ → Range
+span least greatest = record { least = least; greatest = greatest }
+
+-- the table's column "accepted"
+unfoldable pub ranges : Ranges
+ranges =
+    record {
+      along = span (neg 20000) (pos 20000);
+      vertical = span (neg 10000) (pos 10000);
+      airspeed = span (pos 6000) (pos 60000);
+      height = span (neg 20) (pos 5000);
+      pitch = span (neg 30000) (pos 30000);
+      stall = span (neg 10000) (pos 30000);
+      climb = span (neg 10000) (pos 10000);
+      vs1 = span (pos 5000) (pos 30000);
+      mode = span (pos 0) (pos 1);
+      deselect = span (pos 0) (pos 1);
+    }
+
+unfoldable pub inside : Range → ℤ → Bool
+inside r x = within (r .least) x (r .greatest)
+
+-- whether each of the ten fields is accepted by a table of ranges, in table order
+unfoldable pub inRange : Ranges → Sample → List Bool
+inRange table s =
+    inside (table .along) (s .along)
+    ∷ inside (table .vertical) (s .vertical)
+    ∷ inside (table .airspeed) (s .airspeed)
+    ∷ inside (table .height) (s .height)
+    ∷ inside (table .pitch) (s .pitch)
+    ∷ inside (table .stall) (s .stall)
+    ∷ inside (table .climb) (s .climb)
+    ∷ inside (table .vs1) (s .vs1)
+    ∷ inside (table .mode) (s .mode)
+    ∷ inside (table .deselect) (s .deselect)
     ∷ []
 
 -- "Refusal numbers", 11 to 20: the number of the first field that is not accepted, the first field's being n; 0 where all are
 unfoldable pub firstBad : ℕ → List Bool → ℕ
 firstBad n [] = 0
-firstBad n (ok ∷ rest) = cond ok (firstBad (n + 1) rest) n
+firstBad n (ok ∷ rest) = firstOf ok n (firstBad (n + 1) rest)
 
 unfoldable pub refusal : Sample → ℕ
-refusal s = firstBad 11 (inRange s)
+refusal s = firstBad 11 (inRange ranges s)
 
 -- ════ Shear ════
 
@@ -52,12 +92,20 @@ exactShear c vertical airspeed = (c *ℤ pos 18520) over 1765197 -F vertical ove
 unfoldable pub heldShear : ℤ → ℤ → ℤ → ℤ
 heldShear c vertical airspeed = roundF (timesF 100000 (exactShear c vertical airspeed))
 
--- what a sample enters into the windows; and, for "The list in demand 3", into the exact averages
+-- a sample's held shear, which its answer shows; and its exact one
 unfoldable pub held : Sample → List Sample → ℤ
 held s before = heldShear (change s before) (s .vertical) (s .airspeed)
 
 unfoldable pub exact : Sample → List Sample → Fraction
 exact s before = exactShear (change s before) (s .vertical) (s .airspeed)
+
+-- what a sample enters into the windows: "A window is the last that many held shears, this sample's included"
+unfoldable pub entry : Sample → List Sample → ℤ
+entry s before = held s before
+
+-- and into the exact averages: "Each accepted sample enters its exact shear: the formula above, unrounded" (01, "The list in demand 3")
+unfoldable pub exactEntry : Sample → List Sample → Fraction
+exactEntry s before = exact s before
 
 -- what the samples of a list have entered, the newest first
 unfoldable pub entries {ℓ} : {A : Type ℓ} → (Sample → List Sample → A) → List Sample → List A
@@ -88,12 +136,16 @@ windowSum n l = sumℤ (lastOf n (pos 0) l)
 unfoldable pub average : ℕ → List Fraction → Fraction
 average n l = divideF (sumF (lastOf n zeroF l)) n
 
+-- "samples × value"
+unfoldable pub limit : Window → ℤ
+limit w = pos (w .samples * w .value)
+
 -- "met upward when its sum is at least samples × value, downward when the negated sum is"
 unfoldable pub metUp : List ℤ → Window → Bool
-metUp l w = leZ (pos (w .samples * w .value)) (windowSum (w .samples) l)
+metUp l w = leZ (limit w) (windowSum (w .samples) l)
 
 unfoldable pub metDown : List ℤ → Window → Bool
-metDown l w = leZ (pos (w .samples * w .value)) (negℤ (windowSum (w .samples) l))
+metDown l w = leZ (limit w) (negℤ (windowSum (w .samples) l))
 
 -- "height 50 to 1,000, both ends in"
 unfoldable pub inBand : Sample → Bool
@@ -101,15 +153,15 @@ inBand s = within (pos 50) (s .height) (pos 1000)
 
 -- ".. and some window met upward"; amber: "the same, downward". Both may hold at once. Outside the band the windows still fill: `entries`
 -- does not look at the height.
-unfoldable pub condition : (List ℤ → Window → Bool) → List Sample → Bool
-condition met [] = false
-condition met (s ∷ before) = inBand s && anyOf (met (entries held (s ∷ before))) windows
+unfoldable pub condition : (List ℤ → Window → Bool) → List Window → List Sample → Bool
+condition met table [] = false
+condition met table (s ∷ before) = inBand s && anyOf (met (entries entry (s ∷ before))) table
 
 unfoldable pub redCondition : List Sample → Bool
-redCondition = condition metUp
+redCondition = condition metUp windows
 
 unfoldable pub amberCondition : List Sample → Bool
-amberCondition = condition metDown
+amberCondition = condition metDown windows
 
 -- ════ Lamps and voice ════
 
@@ -190,7 +242,7 @@ counted s n = cond (climbing s) (n + 1) 0
 unfoldable pub guided : Sample → Bool → Guidance → Guidance
 guided s comes off = cond comes (on (counted s 0) (smaller (s .pitch) (cap s))) off
 guided s comes (on n command) =
-    cond (eqb (counted s n) 600) off (on (counted s n) (smaller (towards command) (cap s)))
+    cond (leb 600 (counted s n)) off (on (counted s n) (smaller (towards command) (cap s)))
 
 -- "Guidance ends at a sample with deselect, which beats a start"
 unfoldable pub guidanceBy : (comes : List Sample → Bool) → List Sample → Guidance

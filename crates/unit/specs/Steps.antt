@@ -8,8 +8,8 @@ use lib.Dec.{ltb, leb, eqb}
 use lib.IntN.{ℤ, pos, negℤ, natAbs, _-ℤ_}
 use lib.ListN.{getD, take, replicate}
 use lib.Signed.{leZ, _≤ℤ_}
-use Rattle.unit.specs.Choice.{neg, within, same, smaller, anyOf, every}
-use Rattle.unit.specs.Rules.{refusal, heldShear, windowSum, metUp, metDown, windows, cycle, cap, towards, counted}
+use Rattle.unit.specs.Choice.{neg, firstOf, within, same, smaller, every}
+use Rattle.unit.specs.Rules.{ranges, inside, refusal, heldShear, Window, windows, windowSum, limit, cycle, cap, towards, counted}
 use Rattle.unit.specs.declared.Answer.{Answer}
 use Rattle.unit.specs.declared.Core.{Core}
 use Rattle.unit.specs.declared.Offered.{Offered}
@@ -43,23 +43,35 @@ sumsOf held =
       s100 = windowSum 100 held;
     }
 
+-- the six sums in the order of the windows' table
+unfoldable pub sumList : Sums → List ℤ
+sumList s = s .s200 ∷ s .s180 ∷ s .s160 ∷ s .s140 ∷ s .s120 ∷ s .s100 ∷ []
+
+-- whether a sum, or its opposite, reaches a window's limit
+unfoldable pub reached : Bool → Window → ℤ → Bool
+reached up w sum = leZ (limit w) (cond up sum (negℤ sum))
+
+-- whether some window of a table is reached by the sum that stands at its place
+unfoldable pub someReached : Bool → List Window → List ℤ → Bool
+someReached up [] sums = false
+someReached up (w ∷ table) [] = false
+someReached up (w ∷ table) (sum ∷ sums) = reached up w sum || someReached up table sums
+
 unfoldable pub metOf : Bool → Sums → Bool
-metOf up s =
-    leZ (pos 2100000) (cond up (s .s200) (negℤ (s .s200)))
-    || (leZ (pos 2098800) (cond up (s .s180) (negℤ (s .s180)))
-    || (leZ (pos 2097600) (cond up (s .s160) (negℤ (s .s160)))
-    || (leZ (pos 2098600) (cond up (s .s140) (negℤ (s .s140)))
-    || (leZ (pos 2097600) (cond up (s .s120) (negℤ (s .s120)))
-    || (leZ (pos 2100000) (cond up (s .s100) (negℤ (s .s100))) || false)))))
+metOf up s = someReached up windows (sumList s)
 
 unfoldable pub shearOf : State → Sample → ℤ
 shearOf t s = heldShear (cond (ltb 0 (t .core .seen)) (s .along -ℤ t .core .along) (pos 0)) (s .vertical) (s .airspeed)
 
+-- what the sample enters into the windows: its held shear
+unfoldable pub entryOf : State → Sample → ℤ
+entryOf t s = shearOf t s
+
 unfoldable pub windowsOf : State → Sample → ℤ → State
-windowsOf t s x =
+windowsOf t s entry =
     let c = t .core in
     record {
-      held = pushed (t .held) x;
+      held = pushed (t .held) entry;
       core = record { along = s .along; mode = c .mode; command = c .command; seen = c .seen; red = c .red; amber = c .amber; voice = c .voice; guidance = c .guidance };
     }
 
@@ -115,7 +127,7 @@ startedOf s = record { count = counted s 0 + 1; command = smaller (s .pitch) (ca
 unfoldable pub continuedOf : Guide → Sample → Guide
 continuedOf g s =
     let n = counted s (g .count - 1) in
-    cond (eqb n 600) noGuide (record { count = n + 1; command = smaller (towards (g .command)) (cap s) })
+    cond (leb 600 n) noGuide (record { count = n + 1; command = smaller (towards (g .command)) (cap s) })
 
 unfoldable pub guideNext : Guide → Sample → Bool → Guide
 guideNext g s comes =
@@ -153,7 +165,7 @@ refusedOf n = record { refusal = n; alert = 0; voice = 0; guidance = 0; command 
 unfoldable pub acceptOf : State → Sample → Offered
 acceptOf t s =
     let x = shearOf t s in
-    let end = pitchOf (voiceOf (lampsOf (windowsOf t s x) (s .height)) s) s in
+    let end = pitchOf (voiceOf (lampsOf (windowsOf t s (entryOf t s)) (s .height)) s) s in
     record { answer = answerOf end x; state = end }
 
 -- ════ Refusal 8 ════
@@ -168,18 +180,23 @@ countersFit c = leb (c .seen) 600 && leb (c .red) 600 && leb (c .amber) 600 && l
 
 -- "a command outside -30,000 to 27,000, or a last along wind or last mode outside its range above"
 unfoldable pub lastFits : Core → Bool
-lastFits c = within (neg 30000) (c .command) (pos 27000) && within (neg 20000) (c .along) (pos 20000) && within (pos 0) (c .mode) (pos 1)
+lastFits c = within (neg 30000) (c .command) (pos 27000) && inside (ranges .along) (c .along) && inside (ranges .mode) (c .mode)
 
 unfoldable pub passes : State → Bool
 passes t = heldFits (t .held) && countersFit (t .core) && lastFits (t .core)
 
 -- "A lone sample meets 8, then 11 to 20."
 unfoldable pub refusalOf : State → Sample → ℕ
-refusalOf t s = cond (passes t) (refusal s) 8
+refusalOf t s = firstOf (passes t) 8 (refusal s)
 
 -- "A refused sample is as if never offered."
 unfoldable pub offerOf : State → Sample → Offered
 offerOf t s = cond (eqb (refusalOf t s) 0) (acceptOf t s) (record { answer = refusedOf (refusalOf t s); state = t })
+
+-- The promise of the plain form, of the state before, the sample, the answer and the state after: "a state in and a state out" (01, "What the
+-- unit covers").
+unfoldable pub PlainPromise : State → Sample → Answer → State → Type 0
+PlainPromise t s a u = _≡_ {A = Offered} (record { answer = a; state = u }) (offerOf t s)
 
 -- ════ What the private functions ask ════
 

@@ -3,11 +3,11 @@ ghost use mathlib.Core.Path.{_≡_};
 ghost use Prim.Native.Nat.{_≤_};
 ghost use lib.IntN.{natAbs};
 ghost use Rattle.unit.specs.Rules.{refusal};
-ghost use Rattle.unit.specs.Steps.{freshState, Valid, InRange, shearOf, windowsOf, lampsOf, voiceOf, pitchOf, answerOf, acceptOf, offerOf};
+ghost use Rattle.unit.specs.Steps.{freshState, Valid, InRange, shearOf, windowsOf, lampsOf, voiceOf, pitchOf, answerOf, acceptOf, PlainPromise};
 
 mod lamps;
 mod pitch;
-mod ranges;
+pub mod ranges;
 mod shear;
 mod voice;
 mod windows;
@@ -116,12 +116,12 @@ impl State {
         shear::held(0, v, a)
     }
 
-    // "Outside the band the windows still fill."
-    fn windows(mut self, s: Sample, x: i32) -> State
-        ensures { λ r. ⌜ r ≡ windowsOf self s x ⌝ }
+    // "Outside the band the windows still fill": by what the sample enters.
+    fn windows(mut self, s: Sample, entry: i32) -> State
+        ensures { λ r. ⌜ r ≡ windowsOf self s entry ⌝ }
     {
         let held = self.held;
-        let next = windows::pushed(held, x);
+        let next = windows::pushed(held, entry);
         let mut core = self.core;
         core.along = s.along;
         self.held = next;
@@ -208,7 +208,7 @@ impl State {
     // A sample offered in the plain form: refused by the first number that fits, 8 and then 11 to 20, with the state handed back as it
     // was; or answered, with the next state.
     pub fn offer(self, s: Sample) -> Offered
-        ensures { λ r. ⌜ r ≡ offerOf self s ⌝ }
+        ensures { λ r. ⌜ PlainPromise self s (r .answer) (r .state) ⌝ }
     {
         let n = ranges::first_of(ranges::passes(self), 8, ranges::refusal(s));
         if n == 0 {

@@ -91,7 +91,7 @@ impl Guide {
         ensures { λ r. ⌜ r ≡ continuedOf self s ⌝ }
     {
         let n = counted(s, self.count - 1);
-        if n == 600 {
+        if 600 <= n {
             return off();
         }
         let top = cap(s);

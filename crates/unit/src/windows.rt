@@ -1,11 +1,9 @@
 // The windows over the last two hundred held shears, the newest first (01, "The six windows").
 ghost use mathlib.Core.Path.{_≡_};
-ghost use mathlib.Core.Bool.{_||_, cond};
+ghost use mathlib.Core.Bool.{_||_};
 ghost use Prim.Native.Nat.{_≤_};
-ghost use lib.IntN.{negℤ, natAbs};
-ghost use lib.Signed.{leZ};
-ghost use Rattle.unit.specs.Rules.{windowSum};
-ghost use Rattle.unit.specs.Steps.{pushed, HeldWithin, sumsOf, metOf};
+ghost use Rattle.unit.specs.Rules.{row, windowSum};
+ghost use Rattle.unit.specs.Steps.{pushed, HeldWithin, sumsOf, reached, metOf};
 
 // The sums of the six windows, the longest first.
 pub(crate) struct Sums {
@@ -59,11 +57,12 @@ pub(crate) fn all_sums(held: [i32; 200]) -> Sums
     }
 }
 
-// Whether a sum, or its opposite, reaches a limit, or another did.
-fn reaches(sum: i64, limit: i64, up: bool, other: bool) -> bool
-    requires { ⌜ natAbs limit ≤ 10000000 ⌝ }
-    ensures { λ r. ⌜ r ≡ (leZ limit (cond up sum (negℤ sum)) || other) ⌝ }
+// Whether a window's sum, or its opposite, reaches samples × value, or another did.
+fn reaches(sum: i64, samples: u32, value: u32, up: bool, other: bool) -> bool
+    requires { ⌜ (samples ≤ 200) × (value ≤ 100000) ⌝ }
+    ensures { λ r. ⌜ r ≡ (reached up (row samples value) sum || other) ⌝ }
 {
+    let limit = (samples * value) as i64;
     if up {
         if limit <= sum {
             return true;
@@ -81,11 +80,11 @@ impl Sums {
     pub(crate) fn met(self, up: bool) -> bool
         ensures { λ r. ⌜ r ≡ metOf up self ⌝ }
     {
-        let m100 = reaches(self.s100, 2100000, up, false);
-        let m120 = reaches(self.s120, 2097600, up, m100);
-        let m140 = reaches(self.s140, 2098600, up, m120);
-        let m160 = reaches(self.s160, 2097600, up, m140);
-        let m180 = reaches(self.s180, 2098800, up, m160);
-        reaches(self.s200, 2100000, up, m180)
+        let m100 = reaches(self.s100, 100, 21000, up, false);
+        let m120 = reaches(self.s120, 120, 17480, up, m100);
+        let m140 = reaches(self.s140, 140, 14990, up, m120);
+        let m160 = reaches(self.s160, 160, 13110, up, m140);
+        let m180 = reaches(self.s180, 180, 11660, up, m160);
+        reaches(self.s200, 200, 10500, up, m180)
     }
 }

@@ -37,15 +37,17 @@ use denote.Triple.Spec.{Meets, tripleOf}
 use denote.Triple.Statement.{Contract, Triple}
 use denote.Triple.Table.{entered, cited}
 use denote.Triple.Walked.{says, Stays, stay-ref, stay-none, walkOf, AllGo, goes-none, goes-ref, Walks, ends-at, walked, walk-meets}
-use Rattle.unit.specs.Steps.{offerOf}
+use Rattle.unit.specs.Steps.{offerOf, PlainPromise}
 use Rattle.unit.specs.declared.Offered.{Offered}
 use Rattle.unit.specs.declared.Sample.{Sample}
 use Rattle.unit.specs.declared.State.{State}
 use Rattle.unit.proofs.Offered.Laws as OfferedLaws
+use Rattle.unit.proofs.Promises.{plain-offered}
 use Rattle.unit.proofs.State.offer as offer
 use Rattle.unit.proofs.State.offer.Met as offer-met
 use Rattle.unit.proofs.State.offer.Symbol as offer-symbol
 use Rattle.unit.proofs.State.offer.Symbol.{name as #unit·State·offer}
+use Rattle.host.specs.Lent.{LentPromise}
 use Rattle.host.proofs.Structs.{sample, state, answer, offered, rowOf, val, vals, tells, Known, has, learns, typed, answer-of, state-of}
 use Rattle.host.proofs.windshear_offer_lent as lent
 use Rattle.host.proofs.windshear_offer_lent.Code as code
@@ -67,8 +69,8 @@ module _ {M : Type 1} (𝓤 : URA M) (H : Heap 𝓤) (A : Atoms 𝓤) (at-mem : 
   Ensured t s r = ensured 𝓤 H A offer.ended (offer.clauses 𝓤 H A at-mem run) tt (t, (s, tt)) tt r
 
   -- of that, the clause alone
-  clause : (t : State) (s : Sample) (r : Offered) → ent 𝓤 (Ensured t s r) (fact 𝓤 (r ≡ offerOf t s))
-  clause t s r = exE 𝓤 _ (λ ws. snd∗ 𝓤 (sem 𝓤 H A (lasts offer.ended tt (t, (s, tt)) ws)) (fact 𝓤 (r ≡ offerOf t s)))
+  clause : (t : State) (s : Sample) (r : Offered) → ent 𝓤 (Ensured t s r) (fact 𝓤 (PlainPromise t s (r .answer) (r .state)))
+  clause t s r = exE 𝓤 _ (λ ws. snd∗ 𝓤 (sem 𝓤 H A (lasts offer.ended tt (t, (s, tt)) ws)) (fact 𝓤 (PlainPromise t s (r .answer) (r .state))))
 
   module _ (W : Given 𝓤 H A) where
     -- a state t that lies at (b, o), lent under the name γ for the lifetime κ, and a sample s
@@ -85,6 +87,7 @@ module _ {M : Type 1} (𝓤 : URA M) (H : Heap 𝓤) (A : Atoms 𝓤) (at-mem : 
       exits : (r : Offered) → r ≡ offerOf t s → Known answer (r .answer)
           → ent 𝓤 (sep 𝓤 (A .obs γ (rowOf state .coded .code (r .state))) (sep 𝓤 (A .bor κ (Body (mem (rowOf state)) b o γ)) (A .lft κ q)))
           (Post (val answer (r .answer)))
+      unfolding LentPromise
       exits r e is =
           qed W (‵ (fobs γ (rowOf state .coded .code (r .state))) ∷ ‵ (fbor κ (Body (mem (rowOf state)) b o γ)) ∷ ‵ (flft κ q) ∷ []) ∵
           suffices ! _ (ends-at 𝓤 H A lent.ended stayed claim W (((κ, tt), (q, tt), tt, x, at), tt) _ (r .answer) (r .state, (tt, tt)) (tt, (tt, tt))) $
@@ -125,7 +128,7 @@ module _ {M : Type 1} (𝓤 : URA M) (H : Heap 𝓤) (A : Atoms 𝓤) (at-mem : 
             (and-then ! (load ! (from ! (stop !)) (look ! 5 refl)) (and-then ! (load ! (from ! (stop !)) (look ! 9 refl)) (no-more !))) (λ v.
             use1 W (later (some (λ (r : Offered). (‵ ftrue ⊛ ‵ (rowOf offered .own r (v ∷ []))) ⊛ raw (Ensured t s r)))) (id⊢ 𝓤 _) $
             await ! tt $ pick ! (λ r. split ! $
-            move ! (1 ∷ []) $ use1 W (raw (fact 𝓤 (r ≡ offerOf t s))) (clause t s r) $ heard ! (r ≡ offerOf t s) (λ e.
+            move ! (1 ∷ []) $ use1 W (raw (fact 𝓤 (PlainPromise t s (r .answer) (r .state)))) (clause t s r) $ heard ! (PlainPromise t s (r .answer) (r .state)) (λ e.
             split ! $ drop ! $ learns ! offered r (v ∷ []) (λ is.
             land ! (from ! (stop !)) (init ! 6 refl (typed W offered r is)) $
             rewrite ! 6 (λ (u : Val). ‵ (fat fullShare OfferedLaws.mir l₃ 0 u)) (ap only (tells offered r _ is)) refl $
@@ -140,7 +143,7 @@ module _ {M : Type 1} (𝓤 : URA M) (H : Heap 𝓤) (A : Atoms 𝓤) (at-mem : 
             returns ! (look ! 11 refl) $ forget ! 3 refl $ forget ! 5 refl $ forget ! 7 refl $ forget ! 9 refl $ forget ! 11 refl $
             move ! (11 ∷ 12 ∷ []) $ free1 ! $ move ! (9 ∷ 10 ∷ []) $ free1 ! $ move ! (7 ∷ 8 ∷ []) $ free1 ! $
             move ! (5 ∷ 6 ∷ []) $ free1 ! $ move ! (3 ∷ 4 ∷ []) $ free1 ! $ free0 ! $
-            keep ! (0 ∷ 1 ∷ 2 ∷ []) $ by ! (exits r e (answer-of r _ is)))))))))))))
+            keep ! (0 ∷ 1 ∷ 2 ∷ []) $ by ! (exits r (plain-offered t s r e) (answer-of r _ is)))))))))))))
 
     walks : (C : Calls 𝓤 H) (Λ : Loops 𝓤 H) → FmC 𝓤 H (W .laws) C → Triple 𝓤 (C #unit·State·offer) Offer
         → Walks 𝓤 H A lent.ended stayed (WpFn 𝓤 H C Λ code.function) claim

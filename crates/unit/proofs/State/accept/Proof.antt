@@ -3,7 +3,7 @@ use borrow.Author.Needs.{needs}
 use mir.Syntax.{w32}
 use mir.Val.{SFits}
 use mir.Facts.{toZ-ofZ}
-use Rattle.unit.specs.Steps.{Valid, lampsOf, voiceOf, acceptOf}
+use Rattle.unit.specs.Steps.{Valid, lampsOf, voiceOf, entryOf, acceptOf}
 use Rattle.unit.proofs.ValidLaws.{valid-windows, valid-lamps, valid-voice}
 use Rattle.unit.proofs.State.accept.Statement.{statement}
 use Rattle.unit.proofs.State.accept.Tie as tie
@@ -39,7 +39,7 @@ answer-requires : tie.Need-answer-requires
 answer-requires c κs = search needs
 
 returns : tie.Need-returns
-unfolding acceptOf
+unfolding acceptOf entryOf
 returns c =
     let told = c .before .before .before .before in
     let k = told .before .before .before in

@@ -17,7 +17,7 @@ returns : tie.Need-returns
 unfolding windowsOf
 returns c =
     let k = c .before .before .before .before in
-    let x = k .fits .x in
+    let x = k .fits .entry in
     let a = along k in
     let e = simp toZ-ofZ at (c .before .before .pushed .ensures) in
     simp toZ-ofZ (rw e)

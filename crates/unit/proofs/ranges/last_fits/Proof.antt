@@ -3,6 +3,7 @@ use borrow.Author.Needs.{needs}
 use mir.Syntax.{w32}
 use mir.Val.{SFits}
 use mir.Facts.{toZ-ofZ}
+use Rattle.unit.specs.Rules.{ranges, inside}
 use Rattle.unit.specs.Steps.{lastFits}
 use Rattle.unit.proofs.ranges.last_fits.Statement.{statement}
 use Rattle.unit.proofs.ranges.last_fits.Tie as tie
@@ -23,7 +24,7 @@ both-requires-2 : tie.Need-both-requires-2
 both-requires-2 c κs = search needs
 
 returns : tie.Need-returns
-unfolding lastFits
+unfolding lastFits inside ranges
 returns c =
     let c3 = c .before .before in
     let c2 = c3 .before .before in

@@ -3,7 +3,7 @@ use mathlib.Core.Path.{refl, _∙_}
 use Prim.Native.Nat.{_-_}
 use native.Mathlib.Omega.{arith}
 use borrow.Author.Needs.{needs}
-use borrow.Author.Tests.{eq-eqb, ne-eqb}
+use borrow.Author.Tests.{le-leb, lt-leb}
 use mir.Syntax.{w32}
 use mir.Val.{SFits}
 use mir.Facts.{toZ-ofZ}
@@ -23,7 +23,7 @@ off-requires c κs = search needs
 
 returns : tie.Need-returns
 unfolding continuedOf
-returns c = rw (← c .before .before .counted .ensures, eq-eqb _ _ (c .before .if1 .taken)) (c .off .ensures)
+returns c = rw (← c .before .before .counted .ensures, le-leb 600 _ (c .before .if1 .taken)) (c .off .ensures)
 
 cap-requires : tie.Need-cap-requires
 cap-requires c κs = search needs
@@ -51,7 +51,7 @@ returns-2 c =
     let top : SFits w32 (c .before .before .before .cap .result) = record { sfits = c .before .before .before .cap .ok } in
     let d = simp toZ-ofZ at (c .before .towards .ensures) in
     let e = simp toZ-ofZ at (c .smaller .ensures) in
-    rw (← k .before .counted .ensures, ne-eqb _ _ (k .if1 .left))
+    rw (← k .before .counted .ensures, lt-leb 600 _ (k .if1 .left))
     (guide-is refl (toZ-ofZ (record { sfits = c .smaller .ok }) ∙ e ∙ rw (d, c .before .before .before .cap .ensures)))
 
 pub continued-spec : {M : Type 1} → statement M

@@ -1,21 +1,20 @@
 -- `unit::windows::Sums::met` meets its contract: the six calls are its six tests, from the last.
 use mathlib.Core.Path.{_≡_}
-use mathlib.Core.Bool.{Bool, false, _||_, cond}
-use Prim.Native.Nat.{ℕ}
+use mathlib.Core.Bool.{Bool, false, _||_}
 use borrow.Author.Needs.{needs}
-use lib.IntN.{ℤ, pos, negℤ}
-use lib.Signed.{leZ}
+use lib.IntN.{ℤ}
 use mir.Syntax.{w64}
 use mir.Val.{SFits, toZ, ofZ}
 use mir.Facts.{toZ-ofZ}
-use Rattle.unit.specs.Steps.{metOf}
+use Rattle.unit.specs.Rules.{Window, row, windows}
+use Rattle.unit.specs.Steps.{sumList, reached, someReached, metOf}
 use Rattle.unit.specs.declared.windows.Sums.{Sums}
 use Rattle.unit.proofs.windows.Sums.met.Statement.{statement}
 use Rattle.unit.proofs.windows.Sums.met.Tie as tie
 
 -- a test of a sum as it is read back
-abbrev test : ℕ → Bool → ℤ → Bool
-test n up x = let back = toZ w64 (ofZ w64 x) in leZ (pos n) (cond up back (negℤ back))
+abbrev test : Window → Bool → ℤ → Bool
+test w up x = reached up w (toZ w64 (ofZ w64 x))
 
 -- a sum of 64 bits is read back as it is
 abbrev Fit : Sums → Type 0
@@ -26,14 +25,14 @@ fit k = (search needs, search needs, search needs, search needs, search needs, s
 
 -- each test's answer is the other of the next
 chain : (up : Bool) (s : Sums) {a b c d e f : Bool} → Fit s
-    → a ≡ (test 2100000 up (s .s100) || false)
-    → b ≡ (test 2097600 up (s .s120) || a)
-    → c ≡ (test 2098600 up (s .s140) || b)
-    → d ≡ (test 2097600 up (s .s160) || c)
-    → e ≡ (test 2098800 up (s .s180) || d)
-    → f ≡ (test 2100000 up (s .s200) || e)
+    → a ≡ (test (row 100 21000) up (s .s100) || false)
+    → b ≡ (test (row 120 17480) up (s .s120) || a)
+    → c ≡ (test (row 140 14990) up (s .s140) || b)
+    → d ≡ (test (row 160 13110) up (s .s160) || c)
+    → e ≡ (test (row 180 11660) up (s .s180) || d)
+    → f ≡ (test (row 200 10500) up (s .s200) || e)
     → f ≡ metOf up s
-unfolding metOf
+unfolding metOf someReached sumList windows
 chain up s h p q r t u v = cc (toZ-ofZ (h .0), toZ-ofZ (h .1), toZ-ofZ (h .2), toZ-ofZ (h .3), toZ-ofZ (h .4), toZ-ofZ (h .5))
 
 reaches-requires : tie.Need-reaches-requires
