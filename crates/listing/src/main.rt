@@ -1,9 +1,15 @@
 // Lists one run file from standard input (01, "The listing"). At most 62,409 bytes are read, one more than the longest run has.
 // Where a run can't be read or its listing can't be written, it says so in one line on standard error: a fault is no verdict on the file.
+ghost use mathlib.Core.Path.{_≡_};
+ghost use lib.ListN.{take};
 ghost use Rattle.io.specs.Counts.{Counts};
+ghost use Rattle.catalog.specs.Listing.{listingOf};
 use libc::STDERR_FILENO;
 use libc::STDIN_FILENO;
 use libc::STDOUT_FILENO;
+
+// The header, 2,600 lines and the totals, 64 bytes each.
+const ROOM: usize = 166528;
 
 // How many bytes were read, and whether a read failed before the input's end.
 struct Input {
@@ -38,11 +44,17 @@ fn read_input(fd: i32, file: &mut [u8]) -> Input
     }
 }
 
+// The file's listing, whole, at the start of a buffer that has room for every file's.
+fn whole_listing(file: &[u8], out: &mut [u8; ROOM]) -> usize
+    ensures { λ r. ⌜ (Counts r (now (out .exit))) × (take r (now (out .exit)) ≡ listingOf (now (file .entry))) ⌝ }
+{
+    catalog::listing(file, out)
+}
+
 fn print_listing(file: &[u8]) {
-    // room for the heading, 2,600 lines and the total, 64 bytes each
-    let mut out = [0u8; 166528];
-    let m = catalog::listing(file, &mut out);
-    if !io::write_all(STDOUT_FILENO, &out[..m]) {
+    let mut out = [0u8; ROOM];
+    let n = whole_listing(file, &mut out);
+    if !io::write_all(STDOUT_FILENO, &out[..n]) {
         os::fail(b"listing: the listing can't be written whole");
     }
 }
