@@ -13,17 +13,19 @@ use Rattle.io.proofs.Counting.{counts}
 use Rattle.runfile.specs.Run.{testedOf}
 use Rattle.catalog.specs.Listing.{listingOf, roomOf, listedSize, listedIn}
 use Rattle.catalog.specs.Text.{written}
-use Rattle.catalog.proofs.ListingLaws.{good, room-good, room-refused, size-fits}
+use Rattle.catalog.proofs.ListingLaws.{room-good, room-refused, size-fits}
+use Rattle.format.specs.Header.{mostRecords}
+use Rattle.runfile.proofs.RunLaws.{accepted-file}
 use Rattle.listing.proofs.whole_listing.Statement.{statement}
 use Rattle.listing.proofs.whole_listing.Tie as tie
 
-most-room : (file : List ℕ) → roomOf file ≤ 64 * (2600 + 2)
+most-room : (file : List ℕ) → roomOf file ≤ 64 * (mostRecords + 2)
 most-room file = go (eqb (testedOf file .refusal) 0) refl
   where
-    go : (none : Bool) → eqb (testedOf file .refusal) 0 ≡ none → roomOf file ≤ 64 * (2600 + 2)
+    go : (none : Bool) → eqb (testedOf file .refusal) 0 ≡ none → roomOf file ≤ 64 * (mostRecords + 2)
     go true e =
         let ok = eqb-true (testedOf file .refusal) 0 e in
-        rw (room-good file ok) (omega (arith, good file ok .most))
+        rw (room-good file ok) (omega (arith, accepted-file file ok .most))
     go false e = rw (room-refused file (eqb-false (testedOf file .refusal) 0 e)) (omega arith)
 
 module _ (file out : List ℕ) (fits : roomOf file ≤ length out) where
@@ -38,8 +40,8 @@ returns : tie.Need-returns
 returns c =
     let e = c .listing .ensures in
     let s = c .before .before .before .args in (
-      counts _ _ (rw (e .0, c .listing .kept .1 .0) (size-fits _ _)),
-      rw (e .0, e .1) (whole (s .file .now) (s .out .now) (fits c)),
+      counts _ _ (rw (e .size, c .listing .kept .1 .0) (size-fits _ _)),
+      rw (e .size, e .text) (whole (s .file .now) (s .out .now) (fits c)),
     )
 
 pub whole-listing-spec : {M : Type 1} → statement M
