@@ -24,7 +24,7 @@ abbrev number-below : ℕ → In 1 number-kinds.ps
 number-below t = and 1 number-kinds.ps (falls 1 number-kinds.ps _<_ μ-number t) number.Pre
 
 number-digit-requires : (t : ℕ) → number-lts.Need-digit-requires (digit-reads.Asked, digit-reads.Learnt, number-below t, number.Post) (number-at t) number.Post
-number-digit-requires t c κs = search needs
+number-digit-requires t c κs = (c .before .if1 .taken, search needs)
 
 number-same-length : (t : ℕ) → number-lts.Need-same-length (digit-reads.Asked, digit-reads.Learnt, number-below t, number.Post) (number-at t) number.Post
 number-same-length t c = search needs
