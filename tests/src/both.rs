@@ -1,12 +1,13 @@
 //! The reference and the library under the same calls: each call is made of both, and gives what both give, or fails.
 
+use crate::files::right_len;
 use crate::gen::CALM;
 use crate::lend::lend;
-use crate::library::{cut, expected, refused, sent, sent_record, state_of};
+use crate::library::{cut, expected, record_bits, refused, sent, sent_record, state_of};
 use crate::program::listed;
 use crate::reference::{self, Answer, Record, Sample, Unit};
 use std::cell::Cell;
-use windshear::State;
+use windshear::{FileTest, Outcome, State, Unread};
 
 /// Makes the calls, and counts the answers, states and buffers that it compared.
 #[derive(Default)]
@@ -103,6 +104,37 @@ impl Both {
             want.map_err(u16::from),
         );
         self.count(2);
+        want
+    }
+
+    /// A file's own test, which a run with the right answer buffer agrees with.
+    pub fn test_file(&self, file: &[u8]) -> FileTest {
+        let want = reference::test_file(file);
+        let outcome = want.err().map_or(Outcome::default(), |(number, place)| {
+            refused(number, place as usize)
+        });
+        let test = FileTest {
+            refusal: outcome.refusal,
+            place: outcome.place,
+            count: want.unwrap_or(0) as u16,
+        };
+        assert_eq!(windshear::test_file(file), test, "{} bytes", file.len());
+        let ran = windshear::run(file, &mut vec![0; right_len(file)]);
+        assert_eq!(ran, outcome, "{} bytes", file.len());
+        self.count(2);
+        test
+    }
+
+    /// The record at a place by its bits, and its sample.
+    pub fn read_record(&self, file: &[u8], place: usize) -> Result<(Record, Sample), Option<u8>> {
+        let want = reference::record_at(file, place);
+        let read = windshear::read_record(file, place);
+        let bits = read.map(|(record, sample)| (record_bits(&record), sample));
+        let expected = want
+            .map(|(record, sample)| (record, sent(&sample)))
+            .map_err(|number| number.map_or(Unread::NoSuchPlace, |n| Unread::Refused(n.into())));
+        assert_eq!(bits, expected, "place {place} of {} bytes", file.len());
+        self.count(1 + u64::from(want.is_ok()));
         want
     }
 

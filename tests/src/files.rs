@@ -1,7 +1,7 @@
 //! Run files made from samples, good and damaged, and the floats in them.
 
-use crate::gen::{gusts, random_sample, Rng};
-use crate::reference::{Record, Sample};
+use crate::gen::{gusts, random_sample, Rng, CALM};
+use crate::reference::{read_record, Record, Sample, RANGES};
 
 /// The record of a sample, its speeds the floats nearest to so many hundredths more (below half of
 /// one, so that they stay the same). What does not fit its field becomes a value that is refused.
@@ -114,4 +114,94 @@ pub fn float_patterns(rng: &mut Rng) -> impl Iterator<Item = u32> + '_ {
         let mantissas = turning.chain(random);
         mantissas.map(move |mantissa| top << 23 | mantissa as u32 & 0x7f_ffff)
     })
+}
+
+/// The bytes of the record at a place.
+pub fn place_mut(file: &mut [u8], place: usize) -> &mut [u8] {
+    &mut file[8 + 24 * place..][..24]
+}
+
+/// A file of so many calm records.
+pub fn calm_file(count: usize) -> Vec<u8> {
+    file_of(&vec![record_of(&CALM, 0.0); count])
+}
+
+/// Where each field stands in a record: its first byte, and how many.
+const FIELDS: [(usize, usize); 10] = [
+    (0, 4),
+    (4, 4),
+    (8, 4),
+    (12, 2),
+    (14, 2),
+    (16, 2),
+    (18, 2),
+    (20, 2),
+    (22, 1),
+    (23, 1),
+];
+
+/// Puts a value into a field of a record's bytes.
+pub fn put(record: &mut [u8], field: usize, value: u32) {
+    let (at, size) = FIELDS[field];
+    record[at..at + size].copy_from_slice(&value.to_le_bytes()[..size]);
+}
+
+/// The calm record with one field replaced.
+pub fn calm_with(field: usize, value: u32) -> Record {
+    let mut bytes = record_of(&CALM, 0.0).bytes();
+    put(&mut bytes, field, value);
+    read_record(&bytes)
+}
+
+/// Half a step around zero and both ends of a field, as the floats beside it; every kind of float.
+fn floats((low, high): (i32, i32)) -> Vec<u32> {
+    let turning = [low, 0, high].into_iter().flat_map(|h| {
+        [-1.0, -0.5, 0.0, 0.5, 1.0].map(|more| (((f64::from(h) + more) / 100.0) as f32).to_bits())
+    });
+    let kinds = [
+        1,           // the least subnormal
+        0x007f_ffff, // the greatest
+        0x0080_0000, // the least normal
+        0x3e00_0000, // 0.125
+        0x4348_2000, // 200.125
+        0x4b80_0000, // 2^24
+        0x7f7f_ffff, // the greatest
+        0x7f80_0000, // infinity
+        0x7f80_0001, // signalling NaNs
+        0x7fbf_ffff,
+        0x7fc0_0000, // quiet ones
+        0x7fff_ffff,
+    ];
+    let beside = |bits: u32| [-2, -1, 0, 1, 2].map(|d| bits.wrapping_add_signed(d));
+    let near = turning.flat_map(beside).chain(kinds);
+    near.flat_map(|bits| [bits, bits ^ 1 << 31]).collect()
+}
+
+/// Values to put into a field, good and bad.
+pub fn field_values(field: usize) -> Vec<u32> {
+    let (low, high) = RANGES[field];
+    match FIELDS[field].1 {
+        4 => floats((low, high)),
+        2 => {
+            let ends = [low, high, 0].into_iter().flat_map(|end| end - 2..=end + 2);
+            let all = ends.chain([i16::MIN.into(), i16::MAX.into()]);
+            all.map(|value| value as u32).collect()
+        }
+        _ => (0..256).collect(),
+    }
+}
+
+/// Each field's values that are refused.
+pub fn bad_field_values() -> [Vec<u32>; 10] {
+    std::array::from_fn(|field| {
+        let refused = |&value: &u32| calm_with(field, value).sample().is_err();
+        field_values(field).into_iter().filter(refused).collect()
+    })
+}
+
+/// Makes the fields of a set bad.
+pub fn spoil(rng: &mut Rng, bad: &[Vec<u32>; 10], record: &mut [u8], set: u32) {
+    for field in (0..10).filter(|field| set >> field & 1 == 1) {
+        put(record, field, rng.pick(&bad[field]));
+    }
 }

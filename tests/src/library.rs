@@ -72,6 +72,22 @@ pub fn sent_record(r: &reference::Record) -> Record {
     }
 }
 
+/// And back.
+pub fn record_bits(r: &Record) -> reference::Record {
+    reference::Record {
+        along: r.along.to_bits(),
+        vertical: r.vertical.to_bits(),
+        airspeed: r.airspeed.to_bits(),
+        height: r.height,
+        pitch: r.pitch,
+        stall: r.stall,
+        climb: r.climb,
+        vs1: r.vs1,
+        mode: r.mode,
+        deselect: r.deselect,
+    }
+}
+
 /// As the library cuts hundredths, at a million either way.
 pub fn cut(hundredths: i128) -> i32 {
     hundredths.clamp(-1_000_000, 1_000_000) as i32

@@ -8,7 +8,7 @@ use windshear_tests::examples::examples;
 use windshear_tests::files::*;
 use windshear_tests::gen::*;
 use windshear_tests::library::{cut, refused};
-use windshear_tests::reference::{self, read_record, Record, RANGES};
+use windshear_tests::reference::{self, read_record, Record};
 
 /// All signs and exponents.
 #[test]
@@ -101,15 +101,6 @@ impl Tally {
     }
 }
 
-/// The bytes of the record at a place.
-fn place_mut(file: &mut [u8], place: usize) -> &mut [u8] {
-    &mut file[8 + 24 * place..][..24]
-}
-
-fn calm_file(count: usize) -> Vec<u8> {
-    file_of(&vec![record_of(&CALM, 0.0); count])
-}
-
 /// Every list, its accepted samples written by the library and read back by a run.
 #[test]
 fn lists_written_and_run() {
@@ -146,84 +137,12 @@ fn headers_written() {
     tally.done("headers written", &[0..=0, 5..=5, 7..=7]);
 }
 
-/// Where each field stands in a record: its first byte, and how many.
-const FIELDS: [(usize, usize); 10] = [
-    (0, 4),
-    (4, 4),
-    (8, 4),
-    (12, 2),
-    (14, 2),
-    (16, 2),
-    (18, 2),
-    (20, 2),
-    (22, 1),
-    (23, 1),
-];
-
-fn put(record: &mut [u8], field: usize, value: u32) {
-    let (at, size) = FIELDS[field];
-    record[at..at + size].copy_from_slice(&value.to_le_bytes()[..size]);
-}
-
-/// The calm record with one field replaced.
-fn calm_with(field: usize, value: u32) -> Record {
-    let mut bytes = record_of(&CALM, 0.0).bytes();
-    put(&mut bytes, field, value);
-    read_record(&bytes)
-}
-
-/// Half a step around zero and both ends of a field, as the floats beside it; every kind of float.
-fn floats((low, high): (i32, i32)) -> Vec<u32> {
-    let turning = [low, 0, high].into_iter().flat_map(|h| {
-        [-1.0, -0.5, 0.0, 0.5, 1.0].map(|more| (((f64::from(h) + more) / 100.0) as f32).to_bits())
-    });
-    let kinds = [
-        1,           // the least subnormal
-        0x007f_ffff, // the greatest
-        0x0080_0000, // the least normal
-        0x3e00_0000, // 0.125
-        0x4348_2000, // 200.125
-        0x4b80_0000, // 2^24
-        0x7f7f_ffff, // the greatest
-        0x7f80_0000, // infinity
-        0x7f80_0001, // signalling NaNs
-        0x7fbf_ffff,
-        0x7fc0_0000, // quiet ones
-        0x7fff_ffff,
-    ];
-    let beside = |bits: u32| [-2, -1, 0, 1, 2].map(|d| bits.wrapping_add_signed(d));
-    let near = turning.flat_map(beside).chain(kinds);
-    near.flat_map(|bits| [bits, bits ^ 1 << 31]).collect()
-}
-
-/// Values to put into a field, good and bad.
-fn values(field: usize) -> Vec<u32> {
-    let (low, high) = RANGES[field];
-    match FIELDS[field].1 {
-        4 => floats((low, high)),
-        2 => {
-            let ends = [low, high, 0].into_iter().flat_map(|end| end - 2..=end + 2);
-            let all = ends.chain([i16::MIN.into(), i16::MAX.into()]);
-            all.map(|value| value as u32).collect()
-        }
-        _ => (0..256).collect(),
-    }
-}
-
-/// Each field's values that are refused.
-fn bad_values() -> [Vec<u32>; 10] {
-    std::array::from_fn(|field| {
-        let refused = |&value: &u32| calm_with(field, value).sample().is_err();
-        values(field).into_iter().filter(refused).collect()
-    })
-}
-
 /// Each field at each of its values, written with buffers of all lengths, and run at every place of a file.
 #[test]
 fn every_value_in_every_field() {
     let (mut written, mut run) = (Tally::default(), Tally::default());
     for field in 0..10 {
-        for value in values(field) {
+        for value in field_values(field) {
             let record = calm_with(field, value);
             let number = written.record(&record, 24).0;
             assert!(number == 0 || number == 11 + field as u16);
@@ -242,17 +161,10 @@ fn every_value_in_every_field() {
     run.done("files with such a record", &[0..=0, 7..=7, 11..=20]);
 }
 
-/// Makes the fields of a set bad.
-fn spoil(rng: &mut Rng, bad: &[Vec<u32>; 10], record: &mut [u8], set: u32) {
-    for field in (0..10).filter(|field| set >> field & 1 == 1) {
-        put(record, field, rng.pick(&bad[field]));
-    }
-}
-
 /// Every set of bad fields in one record, with other bad records after it or not.
 #[test]
 fn first_bad_record_and_its_first_number() {
-    let (mut rng, bad) = (Rng::new(52), bad_values());
+    let (mut rng, bad) = (Rng::new(52), bad_field_values());
     let mut tally = Tally::default();
     for set in (1..1_024).cycle().take(12 * 1_023) {
         let count = rng.within(1, 12) as usize;

@@ -1,27 +1,58 @@
-//! Samples offered to the unit, and a run file written, read and run: the Rust lines of README.md.
+//! Samples offered to the unit, and a run file written, read back and run. README.md has its lines.
 
-use windshear::{read_record, run, test_file, write_header, write_record, Alert, Record, Sample, State};
+use windshear::{
+    read_record, run, test_file, write_header, write_record, Alert, Record, Sample, State,
+};
 
-fn main() {
-    let mut sample = Sample { airspeed: 14_000, height: 400, pitch: 5_000, stall: 20_000, climb: -700, vs1: 10_000, mode: 1, ..Sample::default() };
-    let mut state = State::fresh();
+/// The lamp after samples of these along winds, in 0.01 kt, on an approach at 400 ft.
+pub fn lamp_after(along_winds: &[i32]) -> Alert {
+    let mut sample = Sample {
+        airspeed: 14_000,
+        height: 400,
+        pitch: 5_000,
+        stall: 20_000,
+        climb: -700,
+        vs1: 10_000,
+        mode: 1,
+        ..Sample::default()
+    };
     let mut lamp = Alert::None;
-    for along in [0, 2_000, 20_001] {
+    let mut state = State::fresh();
+    for &along in along_winds {
         sample.along = along;
-        match state.offer_lent(sample).lamp() {
+        let (by_value, _after) = state.offer(sample);
+        let answer = state.offer_lent(sample);
+        assert_eq!(answer, by_value);
+        match answer.lamp() {
             Ok(alert) => lamp = alert,
-            // a refused sample says nothing of the lamps
             Err(number) => println!("refused by {number}: the lamp stays {lamp:?}"),
         }
     }
-    let (answer, _after) = state.offer(sample); // by value: `state` is as it was
-    assert!(lamp == Alert::Red && answer.refusal == 11);
+    lamp
+}
 
-    let record = Record { airspeed: 140.0, height: 400, vs1: 10_000, ..Record::default() };
+/// The ten answer bytes of a run of one record; or the number that refuses the record.
+pub fn answer_to(record: &Record) -> Result<Vec<u8>, u16> {
     let mut file = [0; 8 + 24];
-    assert!(write_header(1, &mut file[..8]) == 0 && write_record(&record, &mut file[8..]) == 0);
-    assert!(read_record(&file, 0).is_ok_and(|(read, sample)| read == record && sample.height == 400));
+    let number = write_header(1, &mut file[..8]).max(write_record(record, &mut file[8..]));
+    if number != 0 {
+        return Err(number);
+    }
+    let (read, sample) = read_record(&file, 0).expect("what was written is read");
+    println!("{read:?} is taken as {sample:?}");
     let mut answers = vec![0; 10 * usize::from(test_file(&file).count)];
-    assert!(run(&file, &mut answers).refusal == 0);
-    println!("the first record's answer bytes: {answers:?}");
+    let outcome = run(&file, &mut answers);
+    assert_eq!(outcome.refusal, 0);
+    Ok(answers)
+}
+
+pub fn main() {
+    println!("{:?}", lamp_after(&[0, 2_000, 20_001]));
+    let record = Record {
+        airspeed: 140.0,
+        height: 400,
+        vs1: 10_000,
+        ..Record::default()
+    };
+    println!("{:?}", answer_to(&record));
 }

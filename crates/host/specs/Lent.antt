@@ -3,7 +3,6 @@
 use mathlib.Core.Path.{_≡_}
 use Rattle.unit.specs.Steps.{offerOf}
 use Rattle.unit.specs.declared.Answer.{Answer}
-use Rattle.unit.specs.declared.Offered.{Offered}
 use Rattle.unit.specs.declared.Sample.{Sample}
 use Rattle.unit.specs.declared.State.{State}
 

@@ -1,18 +1,23 @@
 -- `host::windshear_hundredths` meets its contract, case by case.
 use mathlib.Core.Path.{_≡_, sym, ap, _∙_}
 use borrow.Author.Needs.{needs}
+use lib.IntN.{ℤ}
 use mir.Facts.{toZ-ofZ}
+use mir.Syntax.{w32}
+use mir.Val.{toZ, ofZ}
+use Rattle.format.specs.declared.float.Converted.the-variants.{Hundredths}
 use Rattle.host.specs.Exported.{convertedNumbers}
-use Rattle.host.specs.declared.ConvertedFloat.{ConvertedFloat}
 use Rattle.host.proofs.windshear_hundredths.Statement.{statement}
 use Rattle.host.proofs.windshear_hundredths.Tie as tie
 
 returns : tie.Need-returns
 unfolding convertedNumbers
 returns c =
-    let n = c .before .n .given in
+    let given = c .before .n .given in
+    let n : ℤ = given .0 .0 in
     let h = c .before .before .before in
-    ap (λ z. record { finite = 1; hundredths = z }) (toZ-ofZ (search needs)) ∙ ap convertedNumbers (sym (n .1) ∙ h .hundredths .ensures)
+    let kept : toZ w32 (ofZ w32 n) ≡ n = toZ-ofZ (search needs) in
+    ap (λ (z : ℤ). convertedNumbers (Hundredths z)) kept ∙ ap convertedNumbers (sym (given .1) ∙ h .hundredths .ensures)
 
 returns-2 : tie.Need-returns-2
 unfolding convertedNumbers

@@ -1,0 +1,280 @@
+//! Run files read back through the library, beside the reference: a file's own test, the record at
+//! a place with its sample, and both round trips, of good and damaged bytes.
+
+use std::collections::BTreeMap;
+use std::ops::RangeInclusive;
+use windshear::{Alert, FileTest};
+use windshear_tests::both::Both;
+use windshear_tests::examples::examples;
+use windshear_tests::files::*;
+use windshear_tests::gen::*;
+use windshear_tests::library::sent_record;
+use windshear_tests::reference::{read_record, Record};
+
+#[path = "../../bindings/rust/examples/offer.rs"]
+mod offer;
+
+/// Places beyond every file's count, with those at which 24 × place, or 8 more, passes the end of
+/// the numbers and comes near 0.
+fn far_places() -> Vec<usize> {
+    let most = usize::MAX;
+    let wraps = [most / 24, most / 24 + 1, most / 8, most / 3, most / 3 + 1];
+    let bits = [1 << 16, (1 << 16) + 1, 1 << 32, 1 << 61, 1 << 63];
+    [2_600, 2_601, 65_535, most - 1, most]
+        .into_iter()
+        .chain(wraps)
+        .chain(bits)
+        .collect()
+}
+
+/// Calls of the reference and the library; how often a record was found, a place was not there,
+/// and each number came, for a place and for a whole file.
+#[derive(Default)]
+struct Tally {
+    both: Both,
+    found: u64,
+    no_place: u64,
+    came: BTreeMap<u8, u64>,
+    tested: BTreeMap<u16, u64>,
+}
+
+impl Tally {
+    /// The record at a place; where it is found, it is written as it was read, and what was written is read again.
+    fn read(&mut self, file: &[u8], place: usize) -> Result<Record, Option<u8>> {
+        match self.both.read_record(file, place) {
+            Ok((record, _)) => {
+                self.found += 1;
+                let bytes = self.both.write_record(&record, 24).unwrap();
+                assert_eq!(bytes, file[8 + 24 * place..][..24]);
+                Ok(record)
+            }
+            Err(number) => {
+                match number {
+                    Some(number) => *self.came.entry(number).or_default() += 1,
+                    None => self.no_place += 1,
+                }
+                Err(number)
+            }
+        }
+    }
+
+    fn test(&mut self, file: &[u8]) -> FileTest {
+        let test = self.both.test_file(file);
+        *self.tested.entry(test.refusal).or_default() += 1;
+        test
+    }
+
+    /// A file's own test, every place of it, those around its count, and those far beyond.
+    fn whole(&mut self, file: &[u8]) -> FileTest {
+        let test = self.test(file);
+        let (count, bad) = (usize::from(test.count), usize::from(test.place));
+        for place in (0..right_len(file) / 10 + 2).chain(far_places()) {
+            let read = self.read(file, place);
+            match test.refusal {
+                0 => assert_eq!(read.is_ok(), place < count),
+                number @ 1..=6 => assert_eq!(read, Err(Some(number as u8))),
+                _ if place < bad => assert!(read.is_ok()),
+                number if place == bad => assert_eq!(read, Err(Some(number as u8))),
+                _ => (),
+            }
+        }
+        test
+    }
+
+    /// Prints the line, and tests that exactly these numbers came, with records and missing places.
+    fn done(&self, what: &str, numbers: &[RangeInclusive<u8>]) {
+        let (compared, found, no_place) = (self.both.compared(), self.found, self.no_place);
+        println!("compared {compared} records, samples, bytes and numbers of {what}: {found} records, {no_place} places not there, by number {:?}, whole files {:?}", self.came, self.tested);
+        assert!(found > 0 && no_place > 0);
+        let numbers = || numbers.iter().cloned().flatten();
+        assert!(self.came.keys().copied().eq(numbers()));
+        let good = self.tested.get(&0).is_some();
+        let tested = self.tested.keys().copied().filter(|&number| number != 0);
+        assert!(good && tested.eq(numbers().map(u16::from)));
+    }
+}
+
+/// What a file of so many good records is answered.
+fn accepted(count: usize) -> FileTest {
+    FileTest {
+        count: count as u16,
+        ..FileTest::default()
+    }
+}
+
+/// What a file is answered whose first bad record is at a place.
+fn bad_record(number: u8, place: usize) -> FileTest {
+    FileTest {
+        refusal: number.into(),
+        place: place as u16,
+        count: 0,
+    }
+}
+
+/// A record written by the library at a place of a file of calm ones, whose header it wrote too.
+/// Gives back the file; where the record is refused, its bytes are there all the same.
+fn written(both: &Both, record: &Record, count: usize, place: usize) -> Vec<u8> {
+    let mut file = both.write_header(count as u32, 8).unwrap().to_vec();
+    for i in 0..count {
+        let calm = record_of(&CALM, 0.0);
+        let record = if i == place { record } else { &calm };
+        file.extend(both.write_record(record, 24).unwrap_or(record.bytes()));
+    }
+    file
+}
+
+/// Each field at each of its values, the ends of every range and every kind of float among them:
+/// written at each place of a file, and read back bit for bit.
+#[test]
+fn every_value_in_every_field() {
+    let mut tally = Tally::default();
+    for field in 0..10 {
+        for value in field_values(field) {
+            let record = calm_with(field, value);
+            for place in 0..3 {
+                let file = written(&tally.both, &record, 3, place);
+                let number = match tally.read(&file, place) {
+                    Ok(read) => {
+                        assert_eq!(read, record);
+                        0
+                    }
+                    Err(number) => number.unwrap(),
+                };
+                assert!(number == 0 || number == 11 + field as u8);
+                let test = match number {
+                    0 => accepted(3),
+                    _ => bad_record(number, place),
+                };
+                assert_eq!(tally.whole(&file), test);
+            }
+        }
+    }
+    tally.done("every value in every field", &[11..=20]);
+}
+
+/// The three floats at patterns of every sign and exponent, minus zero and subnormals among them.
+#[test]
+fn floats_kept_bit_for_bit() {
+    let (mut rng, mut tally) = (Rng::new(60), Tally::default());
+    let (mut subnormal, mut minus_zero) = (0, 0);
+    let patterns: Vec<u32> = float_patterns(&mut rng).step_by(23).collect();
+    for bits in patterns.into_iter().chain([0, 1 << 31, 1, 1 << 31 | 1]) {
+        for field in 0..3 {
+            let record = calm_with(field, bits);
+            let file = written(&tally.both, &record, 1, 0);
+            let read = tally.read(&file, 0);
+            assert_eq!(read.is_ok(), tally.test(&file) == accepted(1));
+            if let Ok(read) = read {
+                assert_eq!(read, record);
+                subnormal += u64::from(bits << 1 != 0 && bits << 1 < 0x0100_0000);
+                minus_zero += u64::from(bits == 1 << 31);
+            }
+            assert_eq!(tally.read(&file, 1), Err(None));
+        }
+    }
+    assert!(subnormal > 500 && minus_zero >= 2);
+    tally.done("floats of every sign and exponent", &[11..=13]);
+}
+
+/// Random records at every place of short files, and of one that is as long as can be; then some spoiled.
+#[test]
+fn random_files() {
+    let (mut rng, mut tally) = (Rng::new(61), Tally::default());
+    let bad = bad_field_values();
+    for count in (0..=40).cycle().take(400).chain([2_599, 2_600]) {
+        let mut file = random_file(&mut rng, count);
+        assert_eq!(tally.whole(&file), accepted(count as usize));
+        if count == 0 {
+            continue;
+        }
+        let mut first = (usize::MAX, 0);
+        for _ in 0..4 {
+            let place = rng.draw() as usize % count as usize;
+            let set = rng.draw() as u32 & rng.draw() as u32 | 1 << rng.within(0, 9);
+            spoil(&mut rng, &bad, place_mut(&mut file, place), set);
+            if place <= first.0 {
+                let before = if place == first.0 { first.1 } else { 0 };
+                first = (place, before | set);
+            }
+        }
+        let number = 11 + first.1.trailing_zeros() as u8;
+        assert_eq!(tally.whole(&file), bad_record(number, first.0));
+    }
+    tally.done("random files, then spoiled", &[11..=20]);
+}
+
+/// Lengths around the right one, and every value of every header byte.
+#[test]
+fn headers_and_lengths() {
+    let mut tally = Tally::default();
+    for count in [0, 1, 2, 3, 2_600, 2_601] {
+        let mut long = calm_file(count);
+        let right = long.len();
+        long.resize(right + 25, 0);
+        let near = right.saturating_sub(25)..=right + 25;
+        for len in (0..=8).chain(near.step_by(if count > 3 { 5 } else { 1 })) {
+            tally.whole(&long[..len]);
+        }
+    }
+    for count in [0, 1, 3] {
+        for at in 0..8 {
+            for byte in 0..=255 {
+                let mut file = calm_file(count);
+                file[at] = byte;
+                tally.whole(&file);
+            }
+        }
+    }
+    tally.done("other headers and lengths", &[1..=6]);
+}
+
+/// Bytes flipped and files cut short or long, at random; and records of random bytes.
+#[test]
+fn damaged_files() {
+    let (mut rng, mut tally) = (Rng::new(62), Tally::default());
+    let kept = examples().map(|(_, file)| file);
+    for _ in 0..12_000 {
+        tally.whole(&damaged_file(&mut rng, &kept));
+        let raw: [u8; 24] = std::array::from_fn(|_| rng.draw() as u8);
+        let file = file_of(&[read_record(&raw), record_of(&CALM, 0.0)]);
+        assert_eq!(file[8..32], raw);
+        tally.whole(&file);
+    }
+    tally.done("damaged files and random bytes", &[1..=6, 11..=20]);
+}
+
+/// The Rust example: README.md's lines are its own; a refused sample leaves the lamp as it was; the
+/// bytes of a calm record's answer.
+#[test]
+fn readme_example() {
+    let readme = include_str!("../../README.md");
+    let source = include_str!("../../bindings/rust/examples/offer.rs");
+    let section = readme.split("### From Rust\n").nth(1).unwrap();
+    let shown = section.lines().take_while(|line| !line.starts_with('#'));
+    let shown: Vec<_> = shown.filter_map(|line| line.strip_prefix("    ")).collect();
+    for line in &shown {
+        let there = source.lines().any(|own| own.trim() == line.trim());
+        assert!(there, "README.md has {line}");
+    }
+    let lamps = [
+        (&[][..], Alert::None),
+        (&[0], Alert::None),
+        (&[0, 2_000], Alert::Red),
+        (&[0, 2_000, 20_001], Alert::Red),
+        (&[0, -2_000, -20_001], Alert::Amber),
+    ];
+    for (along_winds, lamp) in lamps {
+        assert_eq!(offer::lamp_after(along_winds), lamp, "{along_winds:?}");
+    }
+    let calm = sent_record(&record_of(&CALM, 0.0));
+    assert_eq!(offer::answer_to(&calm), Ok(vec![0; 10]));
+    let fast = windshear::Record {
+        airspeed: f32::INFINITY,
+        ..calm
+    };
+    assert_eq!(offer::answer_to(&fast), Err(13));
+    offer::main();
+    assert!(shown.len() > 5);
+    let compared = shown.len() + lamps.len() + 2;
+    println!("compared {compared} lines and answers of the Rust example");
+}
