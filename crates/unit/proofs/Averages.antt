@@ -146,7 +146,8 @@ module _ (l : List Sample) (ok : AllPositive (entries exactEntry l)) where
   unfolding PositiveDivisors averageOf average tableValue tolerance
   table-positive table e w m =
       let n : 0 < w .samples = ltb-true 0 (w .samples) (every-member _ table w e m) in
-      (mul-pos (divisor (w .samples)) n, (lit< tt, (lit< tt, ok)))
+      let d = mul-pos (divisor (w .samples)) n in
+      (d, (lit< tt, (lit< tt, (lit< tt, (mul-pos d (lit< tt), ok)))))
 
   reached-met : (w : Window) → Reaches l w → metUp (entries entry l) w ≡ true
   unfolding Reaches tableValue tolerance averageOf average metUp limit

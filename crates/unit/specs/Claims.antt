@@ -88,9 +88,10 @@ unfoldable pub Below : List Sample → Window → Type 0
 Below l w = (averageOf w l +F tolerance) <F tableValue w
 
 -- "A fraction here is a whole number over a positive one; two are added and compared by multiplying out" (01): every fraction that `Reaches` and
--- `Below` speak of has a positive divisor, the entries included, so that what they multiply out compares fractions
+-- `Below` add or compare has a positive divisor, the entries included
 unfoldable pub PositiveDivisors : List Sample → Window → Type 0
-PositiveDivisors l w = AllPositive (averageOf w l ∷ tableValue w ∷ tolerance ∷ entries exactEntry l)
+PositiveDivisors l w =
+    AllPositive (averageOf w l ∷ tableValue w ∷ tolerance ∷ (tableValue w +F tolerance) ∷ (averageOf w l +F tolerance) ∷ entries exactEntry l)
 
 -- the alert that the last accepted sample's answer showed; 0 where there was none
 unfoldable pub lastAlert : List Sample → ℕ
