@@ -3,12 +3,13 @@
 
 use std::collections::BTreeMap;
 use std::ops::RangeInclusive;
-use windshear::{Alert, FileTest};
+use windshear::refusal::*;
+use windshear::{Alert, FileTest, State};
 use windshear_tests::both::Both;
 use windshear_tests::examples::examples;
 use windshear_tests::files::*;
 use windshear_tests::gen::*;
-use windshear_tests::library::sent_record;
+use windshear_tests::library::{sent, sent_record};
 use windshear_tests::reference::{read_record, Record};
 
 #[path = "../../bindings/rust/examples/offer.rs"]
@@ -123,12 +124,17 @@ fn written(both: &Both, record: &Record, count: usize, place: usize) -> Vec<u8> 
     file
 }
 
+/// The numbers of the ten fields by name.
+const BY_FIELD: [u16; 10] = [
+    ALONG, VERTICAL, AIRSPEED, HEIGHT, PITCH, STALL, CLIMB, VS1, MODE, DESELECT,
+];
+
 /// Each field at each of its values, the ends of every range and every kind of float among them:
 /// written at each place of a file, and read back bit for bit.
 #[test]
 fn every_value_in_every_field() {
     let mut tally = Tally::default();
-    for field in 0..10 {
+    for (field, named) in BY_FIELD.into_iter().enumerate() {
         for value in field_values(field) {
             let record = calm_with(field, value);
             for place in 0..3 {
@@ -140,7 +146,7 @@ fn every_value_in_every_field() {
                     }
                     Err(number) => number.unwrap(),
                 };
-                assert!(number == 0 || number == 11 + field as u8);
+                assert!(number == 0 || u16::from(number) == named);
                 let test = match number {
                     0 => accepted(3),
                     _ => bad_record(number, place),
@@ -150,6 +156,40 @@ fn every_value_in_every_field() {
         }
     }
     tally.done("every value in every field", &[11..=20]);
+}
+
+/// All ten fields at once at good values, the ends of their ranges among them; now and then one bad.
+#[test]
+fn extremes_together() {
+    let (mut rng, mut tally) = (Rng::new(63), Tally::default());
+    let bad = bad_field_values();
+    let good: [Vec<u32>; 10] = std::array::from_fn(|field| {
+        let mut values = field_values(field);
+        values.retain(|value| !bad[field].contains(value));
+        values
+    });
+    for _ in 0..20_000 {
+        let mut bytes = record_of(&CALM, 0.0).bytes();
+        for (field, values) in good.iter().enumerate() {
+            put(&mut bytes, field, rng.pick(values));
+        }
+        let spoiled = rng.one_in(10).then(|| rng.within(0, 9));
+        if let Some(field) = spoiled {
+            spoil(&mut rng, &bad, &mut bytes, 1 << field);
+        }
+        let (record, place) = (read_record(&bytes), rng.within(0, 2) as usize);
+        let file = written(&tally.both, &record, 3, place);
+        assert_eq!(file[8 + 24 * place..][..24], bytes);
+        let read = tally.read(&file, place);
+        let number = spoiled.map(|field| BY_FIELD[field as usize] as u8);
+        assert_eq!(read, number.map_or(Ok(record), |n| Err(Some(n))));
+        assert_eq!(
+            tally.test(&file),
+            number.map_or(accepted(3), |n| bad_record(n, place))
+        );
+        assert_eq!(tally.read(&file, 3 + place), Err(None));
+    }
+    tally.done("extremes of all fields at once", &[11..=20]);
 }
 
 /// The three floats at patterns of every sign and exponent, minus zero and subnormals among them.
@@ -225,6 +265,15 @@ fn headers_and_lengths() {
             }
         }
     }
+    // each number by its name
+    let changed = [(MARK, 0), (VERSION, 4), (ZERO, 5), (COUNT, 7), (LENGTH, 6)];
+    for (named, at) in changed {
+        let mut file = calm_file(3);
+        file[at] ^= 0x10;
+        assert_eq!(tally.whole(&file).refusal, named);
+    }
+    assert_eq!(tally.whole(&calm_file(3)[..7]).refusal, SHORT);
+    assert_eq!(windshear::write_header(3, &mut [0; 9]), BUFFER);
     tally.done("other headers and lengths", &[1..=6]);
 }
 
@@ -272,9 +321,12 @@ fn readme_example() {
         airspeed: f32::INFINITY,
         ..calm
     };
-    assert_eq!(offer::answer_to(&fast), Err(13));
+    assert_eq!(offer::answer_to(&fast), Err(AIRSPEED));
+    let mut forged = State::fresh();
+    forged.core.red = 601;
+    assert_eq!(forged.offer_lent(sent(&CALM)).lamp(), Err(STATE));
     offer::main();
     assert!(shown.len() > 5);
-    let compared = shown.len() + lamps.len() + 2;
+    let compared = shown.len() + lamps.len() + 3;
     println!("compared {compared} lines and answers of the Rust example");
 }

@@ -1,7 +1,7 @@
 //! The proved windshear unit and its run files, for Rust programs. Every function takes every value: what is out of range is refused by its number.
 //!
 //! ```
-//! use windshear::{Alert, Sample, State};
+//! use windshear::{refusal, Alert, Sample, State};
 //!
 //! let mut state = State::fresh();
 //! let mut sample = Sample { airspeed: 14_000, height: 400, pitch: 5_000, stall: 20_000, climb: -700, vs1: 10_000, mode: 1, ..Sample::default() };
@@ -12,7 +12,7 @@
 //! assert_eq!(lamp, Ok(Alert::Red));
 //! // A refused sample says nothing of the lamps: red is still lit.
 //! sample.along = 20_001;
-//! assert_eq!(state.offer_lent(sample).lamp(), Err(11));
+//! assert_eq!(state.offer_lent(sample).lamp(), Err(refusal::ALONG));
 //! ```
 
 /// One of the twenty samples of a second, in the units of 01's table.
@@ -60,6 +60,37 @@ pub struct State {
     pub core: Core,
 }
 
+/// The refusal numbers, in the order tested. 0 refuses nothing.
+pub mod refusal {
+    /// file shorter than 8 bytes
+    pub const SHORT: u16 = 1;
+    /// mark is not `WSR`
+    pub const MARK: u16 = 2;
+    /// version is not 1
+    pub const VERSION: u16 = 3;
+    /// sixth byte is not zero
+    pub const ZERO: u16 = 4;
+    /// count above 2,600
+    pub const COUNT: u16 = 5;
+    /// length is not 8 + 24 × count
+    pub const LENGTH: u16 = 6;
+    /// lent buffer has the wrong length
+    pub const BUFFER: u16 = 7;
+    /// the state is out of range: a held shear, a counter, the command, the last along wind or the last mode
+    pub const STATE: u16 = 8;
+    /// this field of a sample or a record, and each below, is out of range or a float that is not finite
+    pub const ALONG: u16 = 11;
+    pub const VERTICAL: u16 = 12;
+    pub const AIRSPEED: u16 = 13;
+    pub const HEIGHT: u16 = 14;
+    pub const PITCH: u16 = 15;
+    pub const STALL: u16 = 16;
+    pub const CLIMB: u16 = 17;
+    pub const VS1: u16 = 18;
+    pub const MODE: u16 = 19;
+    pub const DESELECT: u16 = 20;
+}
+
 /// Which lamp is lit.
 #[derive(Clone, Copy, Debug, PartialEq, Eq)]
 pub enum Alert {
@@ -74,6 +105,7 @@ pub enum Alert {
 #[repr(C)]
 #[derive(Clone, Copy, Debug, PartialEq, Eq)]
 pub struct Answer {
+    /// 0, or a number of [`refusal`]: 8, or 11 to 20
     pub refusal: u16,
     /// 0 none, 1 amber, 2 red, where `refusal` is 0
     pub alert: u16,
@@ -128,7 +160,7 @@ pub struct FileTest {
 pub enum Unread {
     /// the file has no record at that place
     NoSuchPlace,
-    /// the number that refuses the file, 1 to 6, or the record at that place, 11 to 20
+    /// the number of [`refusal`] that refuses the file, 1 to 6, or the record at that place, 11 to 20
     Refused(u16),
 }
 
@@ -228,7 +260,7 @@ pub fn test_file(file: &[u8]) -> FileTest {
 /// The record at a place from 0, as the file has it, and the sample that a run takes it as. Other records of the file may be refused.
 ///
 /// ```
-/// use windshear::{read_record, write_header, write_record, Record, Unread};
+/// use windshear::{read_record, refusal, write_header, write_record, Record, Unread};
 ///
 /// let record = Record { along: -0.0, airspeed: 140.0, height: 400, vs1: 10_000, ..Record::default() };
 /// let mut file = [0; 8 + 24];
@@ -237,7 +269,7 @@ pub fn test_file(file: &[u8]) -> FileTest {
 /// let (read, sample) = read_record(&file, 0).unwrap();
 /// assert!(read == record && read.along.is_sign_negative() && sample.airspeed == 14_000);
 /// assert_eq!(read_record(&file, 1), Err(Unread::NoSuchPlace));
-/// assert_eq!(read_record(&file[..31], 0), Err(Unread::Refused(6)));
+/// assert_eq!(read_record(&file[..31], 0), Err(Unread::Refused(refusal::LENGTH)));
 /// ```
 pub fn read_record(file: &[u8], place: usize) -> Result<(Record, Sample), Unread> {
     // SAFETY: as for `test_file`, and the function is defined for every place.
