@@ -32,23 +32,23 @@ pub record Ranges : Type 0 where
   pub mode : Range
   pub deselect : Range
 
-abbrev pub span : ℤ → ℤ → Range
-span least greatest = record { least = least; greatest = greatest }
+abbrev pub range : ℤ → ℤ → Range
+range least greatest = record { least = least; greatest = greatest }
 
 -- the table's column "accepted"
 unfoldable pub ranges : Ranges
 ranges =
     record {
-      along = span (neg 20000) (pos 20000);
-      vertical = span (neg 10000) (pos 10000);
-      airspeed = span (pos 6000) (pos 60000);
-      height = span (neg 20) (pos 5000);
-      pitch = span (neg 30000) (pos 30000);
-      stall = span (neg 10000) (pos 30000);
-      climb = span (neg 10000) (pos 10000);
-      vs1 = span (pos 5000) (pos 30000);
-      mode = span (pos 0) (pos 1);
-      deselect = span (pos 0) (pos 1);
+      along = range (neg 20000) (pos 20000);
+      vertical = range (neg 10000) (pos 10000);
+      airspeed = range (pos 6000) (pos 60000);
+      height = range (neg 20) (pos 5000);
+      pitch = range (neg 30000) (pos 30000);
+      stall = range (neg 10000) (pos 30000);
+      climb = range (neg 10000) (pos 10000);
+      vs1 = range (pos 5000) (pos 30000);
+      mode = range (pos 0) (pos 1);
+      deselect = range (pos 0) (pos 1);
     }
 
 unfoldable pub inside : Range → ℤ → Bool
