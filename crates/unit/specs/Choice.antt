@@ -26,6 +26,11 @@ smaller a b = cond (ltZ a b) a b
 unfoldable pub larger : ℤ → ℤ → ℤ
 larger a b = cond (ltZ a b) b a
 
+-- what holds of every element of a list
+abbrev pub AllOf {ℓ} : {A : Type ℓ} → (A → Type 0) → List A → Type 0
+AllOf holds [] = Unit {0}
+AllOf holds (a ∷ l) = holds a × AllOf holds l
+
 -- whether some element of a list passes a test
 unfoldable pub anyOf {ℓ} : {A : Type ℓ} → (A → Bool) → List A → Bool
 anyOf f [] = false
