@@ -231,11 +231,11 @@ module _ (s : Sample) (l : List Sample) where
 
   red-holds : (within (pos 50) (s .height) (pos 1000) && metOf true (sumsOf (heldOf (s ∷ l)))) ≡ redCondition (s ∷ l)
   unfolding redCondition condition inBand
-  red-holds = rw (met-follows (entries entry (s ∷ l)) .0)
+  red-holds = rw (met-follows (entries entry (s ∷ l)) .0) refl
 
   amber-holds : (within (pos 50) (s .height) (pos 1000) && metOf false (sumsOf (heldOf (s ∷ l)))) ≡ amberCondition (s ∷ l)
   unfolding amberCondition condition inBand
-  amber-holds = rw (met-follows (entries entry (s ∷ l)) .1)
+  amber-holds = rw (met-follows (entries entry (s ∷ l)) .1) refl
 
   red-next : lampNext (min (redFor l) 60) (redCondition (s ∷ l)) ≡ min (redFor (s ∷ l)) 60
   unfolding redFor litFor

@@ -178,12 +178,13 @@ impl State {
         ensures { λ r. ⌜ r ≡ answerOf self x ⌝ }
     {
         let core = self.core;
+        let command = core.command;
         Answer {
             refusal: 0,
             alert: lamps::alert(core.red, core.amber),
             voice: voice::cycle(core.voice),
             guidance: pitch::shown(core.guidance),
-            command: core.command,
+            command: command,
             shear: x,
         }
     }
@@ -210,7 +211,9 @@ impl State {
     pub fn offer(self, s: Sample) -> Offered
         ensures { λ r. ⌜ PlainPromise self s (r .answer) (r .state) ⌝ }
     {
-        let n = ranges::first_of(ranges::passes(self), 8, ranges::refusal(s));
+        let passed = ranges::passes(self);
+        let later = ranges::refusal(s);
+        let n = ranges::first_of(passed, 8, later);
         if n == 0 {
             return self.accept(s);
         }

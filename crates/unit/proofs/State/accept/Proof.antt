@@ -1,9 +1,15 @@
 -- `unit::State::accept` meets its contract: the methods one after another; a state that passes still does after each of them.
+use mathlib.Core.Path.{_≡_}
 use borrow.Author.Needs.{needs}
+use lib.IntN.{ℤ}
 use mir.Syntax.{w32}
 use mir.Val.{SFits}
 use mir.Facts.{toZ-ofZ}
-use Rattle.unit.specs.Steps.{Valid, lampsOf, voiceOf, entryOf, acceptOf}
+use Rattle.unit.specs.Steps.{Valid, shearOf, entryOf, windowsOf, lampsOf, voiceOf, pitchOf, answerOf, acceptOf}
+use Rattle.unit.specs.declared.Answer.{Answer}
+use Rattle.unit.specs.declared.Offered.{Offered}
+use Rattle.unit.specs.declared.Sample.{Sample}
+use Rattle.unit.specs.declared.State.{State}
 use Rattle.unit.proofs.ValidLaws.{valid-windows, valid-lamps, valid-voice}
 use Rattle.unit.proofs.State.accept.Statement.{statement}
 use Rattle.unit.proofs.State.accept.Tie as tie
@@ -38,8 +44,14 @@ pitch-requires c κs =
 answer-requires : tie.Need-answer-requires
 answer-requires c κs = search needs
 
-returns : tie.Need-returns
+-- each method's answer goes into the next
+chain : (t : State) (s : Sample) {x : ℤ} {entered lit spoken end : State} {a : Answer}
+    → x ≡ shearOf t s → entered ≡ windowsOf t s x → lit ≡ lampsOf entered (s .height) → spoken ≡ voiceOf lit s → end ≡ pitchOf spoken s → a ≡ answerOf end x
+    → _≡_ {A = Offered} (record { answer = a; state = end }) (acceptOf t s)
 unfolding acceptOf entryOf
+chain t s e w l v p a = rw (a, p, v, l, w, e)
+
+returns : tie.Need-returns
 returns c =
     let told = c .before .before .before .before in
     let k = told .before .before .before in
@@ -48,7 +60,7 @@ returns c =
     let a = simp toZ-ofZ at (c .answer .ensures) in
     let l = simp toZ-ofZ at (c .before .before .before .lamps .ensures) in
     let w = simp toZ-ofZ at (told .before .windows .ensures) in
-    rw (a, c .before .pitch .ensures, c .before .before .voice .ensures, l, w, told .before .before .shear .ensures .0)
+    chain (k .args .self) (k .args .s) (told .before .before .shear .ensures .0) w l (c .before .before .voice .ensures) (c .before .pitch .ensures) a
 
 pub accept-spec : {M : Type 1} → statement M
 accept-spec =

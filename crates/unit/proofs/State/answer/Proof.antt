@@ -1,9 +1,14 @@
 -- `unit::State::answer` meets its contract: what the calls ensure, and the command and the shear as they are read back.
+use mathlib.Core.Path.{_≡_}
+use Prim.Native.Nat.{ℕ}
 use borrow.Author.Needs.{needs}
+use lib.IntN.{ℤ}
 use mir.Syntax.{w32}
-use mir.Val.{SFits}
 use mir.Facts.{toZ-ofZ}
-use Rattle.unit.specs.Steps.{answerOf}
+use Rattle.unit.specs.Rules.{cycle}
+use Rattle.unit.specs.Steps.{alertOf, shownOf, answerOf}
+use Rattle.unit.specs.declared.Answer.{Answer}
+use Rattle.unit.specs.declared.State.{State}
 use Rattle.unit.proofs.State.answer.Statement.{statement}
 use Rattle.unit.proofs.State.answer.Tie as tie
 
@@ -16,13 +21,18 @@ cycle-requires c κs = search needs
 shown-requires : tie.Need-shown-requires
 shown-requires c κs = search needs
 
-returns : tie.Need-returns
+-- an answer by its fields
+fields : (t : State) (x : ℤ) {a v g : ℕ} {command shear : ℤ}
+    → a ≡ alertOf (t .core .red) (t .core .amber) → v ≡ cycle (t .core .voice) → g ≡ shownOf (t .core .guidance) → command ≡ t .core .command → shear ≡ x
+    → _≡_ {A = Answer} (record { refusal = 0; alert = a; voice = v; guidance = g; command = command; shear = shear }) (answerOf t x)
 unfolding answerOf
+fields t x p q r c e = rw (p, q, r, c, e)
+
+returns : tie.Need-returns
 returns c =
-    let k = c .before .before .before .before .before in
-    let x = k .fits .x in
-    let command : SFits w32 (k .args .self .core .command) = search needs in
-    simp toZ-ofZ (rw (c .before .before .before .alert .ensures, c .before .before .cycle .ensures, c .before .shown .ensures))
+    let k = c .before .before .before .before .before .args in
+    fields (k .self) (k .x) (c .before .before .alert .ensures) (c .before .cycle .ensures) (c .shown .ensures)
+    (toZ-ofZ {w = w32} (search needs)) (toZ-ofZ {w = w32} (search needs))
 
 pub answer-spec : {M : Type 1} → statement M
 answer-spec = tie.close (tie.spec alert-requires cycle-requires shown-requires returns)

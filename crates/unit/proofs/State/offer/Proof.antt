@@ -5,8 +5,11 @@ use Prim.Native.Nat.{ℕ, suc}
 use native.Mathlib.Omega.{arith}
 use borrow.Author.Needs.{needs}
 use borrow.Author.Tests.{eq-eqb, ne-eqb}
+use Rattle.unit.specs.Choice.{firstOf}
 use Rattle.unit.specs.Rules.{refusal}
 use Rattle.unit.specs.Steps.{passes, refusedOf, refusalOf, offerOf, PlainPromise}
+use Rattle.unit.specs.declared.Sample.{Sample}
+use Rattle.unit.specs.declared.State.{State}
 use Rattle.unit.proofs.Choices.{passed}
 use Rattle.unit.proofs.RangeLaws.{in-range, valid}
 use Rattle.unit.proofs.State.offer.Statement.{statement}
@@ -21,9 +24,15 @@ refusal-requires c κs = search needs
 first-of-requires : tie.Need-first-of-requires
 first-of-requires c κs = search needs
 
-number : (c : tie.After-first-of) → c .first-of .result ≡ refusalOf (c .before .before .before .args .self) (c .before .before .before .args .s)
+-- 8's test and the sample's number give the number
+chain : (t : State) (s : Sample) {ok : Bool} {later n : ℕ} → ok ≡ passes t → later ≡ refusal s → n ≡ firstOf ok 8 later → n ≡ refusalOf t s
 unfolding refusalOf
-number c = c .first-of .ensures ∙ rw (c .before .refusal .ensures, c .before .before .passes .ensures)
+chain t s p q e = rw (e, p, q)
+
+number : (c : tie.After-first-of) → c .first-of .result ≡ refusalOf (c .before .before .before .args .self) (c .before .before .before .args .s)
+number c =
+    let k = c .before .before .before in
+    chain (k .args .self) (k .args .s) (c .before .before .passes .ensures) (c .before .refusal .ensures) (c .first-of .ensures)
 
 accept-requires : tie.Need-accept-requires
 unfolding refusalOf

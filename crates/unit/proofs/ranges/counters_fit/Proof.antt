@@ -1,6 +1,10 @@
 -- `unit::ranges::counters_fit` meets its contract: each step's result is put for its name.
+use mathlib.Core.Path.{_≡_}
+use mathlib.Core.Bool.{Bool, _&&_}
 use borrow.Author.Needs.{needs}
+use lib.Dec.{leb}
 use Rattle.unit.specs.Steps.{countersFit}
+use Rattle.unit.specs.declared.Core.{Core}
 use Rattle.unit.proofs.ranges.counters_fit.Statement.{statement}
 use Rattle.unit.proofs.ranges.counters_fit.Tie as tie
 
@@ -16,13 +20,22 @@ both-requires-3 c κs = search needs
 both-requires-4 : tie.Need-both-requires-4
 both-requires-4 c κs = search needs
 
-returns : tie.Need-returns
+-- each test's answer goes into the next
+chain : (k : Core) {two three four five : Bool}
+    → two ≡ (leb (k .seen) 600 && leb (k .red) 600)
+    → three ≡ (two && leb (k .amber) 600)
+    → four ≡ (three && leb (k .voice) 600)
+    → five ≡ (four && leb (k .guidance) 600)
+    → five ≡ countersFit k
 unfolding countersFit
+chain k p q r s = rw (s, r, q, p)
+
+returns : tie.Need-returns
 returns c =
     let four = c .before .before in
     let three = four .before .before in
     let two = three .before .before in
-    rw (c .both4 .ensures, four .both3 .ensures, three .both2 .ensures, two .both .ensures)
+    chain (two .before .before .before .args .core) (two .both .ensures) (three .both2 .ensures) (four .both3 .ensures) (c .both4 .ensures)
 
 pub counters-fit-spec : {M : Type 1} → statement M
 counters-fit-spec =

@@ -1,13 +1,16 @@
 -- `unit::ranges::held_fits` meets its contract. The loop goes down: what is found is the test of the elements from `i` on.
 use mathlib.Core.Path.{_≡_, sym}
-use Prim.Native.Nat.{suc, _-_, _≤_, _<_}
+use mathlib.Core.Bool.{Bool, _&&_}
+use mathlib.Core.List.{List}
+use Prim.Native.Nat.{ℕ, suc, _-_, _≤_, _<_}
 use native.Mathlib.Omega.{arith}
 use borrow.Author.Needs.{needs}
-use lib.IntN.{pos}
+use lib.IntN.{ℤ, pos}
 use lib.ListN.{length, getD, drop}
 use mir.Syntax.{w32}
 use mir.Val.{SFits}
 use mir.Facts.{toZ-ofZ}
+use Rattle.unit.specs.Choice.{neg, within}
 use Rattle.unit.specs.Steps.{heldFits}
 use Rattle.unit.proofs.RangeLaws.{every-past, every-drop}
 use Rattle.unit.proofs.ranges.held_fits.Statement.{statement}
@@ -43,17 +46,24 @@ both-requires c κs = search needs
 loop-less : tie.Need-loop-less Inv-loop μ-loop
 loop-less c = search needs
 
-loop-again : tie.Need-loop-again Inv-loop μ-loop
+-- one more at the front: what the two calls answer, of the element at i - 1 and of those from i on
+more : (held : List ℤ) (i : ℕ) {one rest both : Bool} → 0 < i → i ≤ length held
+    → one ≡ within (neg 50000000) (getD held (i - 1) (pos 0)) (pos 50000000) → rest ≡ heldFits (drop i held) → both ≡ (one && rest)
+    → both ≡ heldFits (drop (i - 1) held)
 unfolding heldFits
+more held i p h e f g =
+    let k : suc (i - 1) ≡ i = omega arith in
+    let l : i - 1 < length held = omega arith in
+    rw (g, e, f, every-drop _ held (i - 1) (pos 0), k)
+
+loop-again : tie.Need-loop-again Inv-loop μ-loop
 loop-again c =
     let k = c .before .before .before .before in
     let held = k .before .args .t1 in
     let i = k .loop .i in
     let x : SFits w32 (getD held (i - 1) (pos 0)) = record { sfits = c .before .before .between-arg .given } in
-    let first = simp toZ-ofZ at (c .before .between .ensures) in
-    let rest : suc (i - 1) ≡ i = omega arith in
-    let h : i - 1 < length held = omega arith in
-    (omega arith, k .loop .inv .1, rw (c .both .ensures, first, k .loop .inv .2, every-drop _ held (i - 1) (pos 0), rest))
+    let one = simp toZ-ofZ at (c .before .between .ensures) in
+    (omega arith, k .loop .inv .1, more held i (omega arith) (omega arith) one (k .loop .inv .2) (c .both .ensures))
 
 returns : tie.Need-returns Inv-loop μ-loop
 returns c = let e : c .before .loop .i ≡ 0 = omega arith in rw e at (c .before .loop .inv .2)

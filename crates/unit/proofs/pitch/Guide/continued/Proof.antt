@@ -1,12 +1,14 @@
 -- `unit::pitch::Guide::continued` meets its contract: what the calls ensure, each result as it is read back.
-use mathlib.Core.Path.{refl, _∙_}
+use mathlib.Core.Path.{_≡_, refl, _∙_}
 use Prim.Native.Nat.{_-_}
 use native.Mathlib.Omega.{arith}
 use borrow.Author.Needs.{needs}
 use borrow.Author.Tests.{le-leb, lt-leb}
+use lib.IntN.{ℤ}
 use mir.Syntax.{w32}
 use mir.Val.{SFits}
 use mir.Facts.{toZ-ofZ}
+use Rattle.unit.specs.Choice.{smaller}
 use Rattle.unit.specs.Steps.{continuedOf}
 use Rattle.unit.proofs.PitchLaws.{counted-le, guide-is}
 use Rattle.unit.proofs.pitch.Guide.continued.Statement.{statement}
@@ -42,6 +44,10 @@ towards-requires c κs =
 smaller-requires : tie.Need-smaller-requires
 smaller-requires c κs = search needs
 
+-- the command, from where it moved to and the cap
+cut : {x y top a b : ℤ} → x ≡ a → top ≡ b → y ≡ smaller x top → y ≡ smaller a b
+cut p q e = rw (e, p, q)
+
 returns-2 : tie.Need-returns-2
 unfolding continuedOf
 returns-2 c =
@@ -52,7 +58,7 @@ returns-2 c =
     let d = simp toZ-ofZ at (c .before .towards .ensures) in
     let e = simp toZ-ofZ at (c .smaller .ensures) in
     rw (← k .before .counted .ensures, lt-leb 600 _ (k .if1 .left))
-    (guide-is refl (toZ-ofZ (record { sfits = c .smaller .ok }) ∙ e ∙ rw (d, c .before .before .before .cap .ensures)))
+    (guide-is refl (toZ-ofZ (record { sfits = c .smaller .ok }) ∙ cut d (c .before .before .before .cap .ensures) e))
 
 pub continued-spec : {M : Type 1} → statement M
 continued-spec =
