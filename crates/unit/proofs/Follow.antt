@@ -17,6 +17,7 @@ use Rattle.unit.specs.Choice.{within, same, smaller, anyOf}
 use Rattle.unit.specs.Claims.{shows}
 use Rattle.unit.specs.Rules.{change, held, entry, entries, row, windows, lastOf, windowSum, metUp, metDown, inBand, condition, redCondition, amberCondition, litFor, redFor, redLit, redComesOn, amberFor, amberLit, modeChange, voiceFor, cycle, voice, counted, cap, towards, Guidance, off, on, guided, guidanceBy, guidance, isOn, commandOf}
 use Rattle.unit.specs.Steps.{pushed, sumsOf, sumList, reached, someReached, metOf, shearOf, entryOf, windowsOf, lampNext, unlessLit, lampsOf, changedOf, keptOf, voiceNext, voiceOf, noGuide, startedOf, continuedOf, guideNext, guideOf, pitchOf, alertOf, shownOf, answerOf, acceptOf}
+use Rattle.unit.specs.declared.Answer.{Answer}
 use Rattle.unit.specs.declared.Offered.{Offered}
 use Rattle.unit.specs.declared.Sample.{Sample}
 use Rattle.unit.specs.declared.State.{State}
@@ -213,6 +214,12 @@ alert-follows : (r n : ℕ) → alertOf (min r 60) (min n 60) ≡ cond (ltb 0 r)
 unfolding alertOf
 alert-follows r n = rw (lit-follows r 60 (lit≤ tt), lit-follows n 60 (lit≤ tt))
 
+-- answers that differ in nothing
+same-answer : {a b v w g h : ℕ} {command shear : ℤ} → a ≡ b → v ≡ w → g ≡ h
+    → _≡_ {A = Answer} (record { refusal = 0; alert = a; voice = v; guidance = g; command = command; shear = shear })
+    (record { refusal = 0; alert = b; voice = w; guidance = h; command = command; shear = shear })
+same-answer p q r = rw (p, q, r)
+
 -- ════ A step ════
 
 -- the windows that the state holds are met as those of all the entries
@@ -274,7 +281,7 @@ module _ (s : Sample) (l : List Sample) where
   answered : answerOf (stateOf (s ∷ l)) (held s l) ≡ shows s l
   unfolding answerOf stateOf shows redLit amberLit voice
   answered =
-      rw (alert-follows (redFor (s ∷ l)) (amberFor (s ∷ l)), cycle-follows (voiceFor redComesOn (s ∷ l)), shown-follows (guidance (s ∷ l)))
+      same-answer (alert-follows (redFor (s ∷ l)) (amberFor (s ∷ l))) (cycle-follows (voiceFor redComesOn (s ∷ l))) (shown-follows (guidance (s ∷ l)))
 
   -- an accepted sample's answer, and the state that it leaves
   pub accept-follows : acceptOf (stateOf l) s ≡ record { answer = shows s l; state = stateOf (s ∷ l) }

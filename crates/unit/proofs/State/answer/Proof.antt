@@ -30,8 +30,7 @@ fields t x p q r c e = rw (p, q, r, c, e)
 
 returns : tie.Need-returns
 returns c =
-    let k = c .before .before .before .before .before .args in
-    fields (k .self) (k .x) (c .before .before .alert .ensures) (c .before .cycle .ensures) (c .shown .ensures)
+    fields _ _ (c .before .before .alert .ensures) (c .before .cycle .ensures) (c .shown .ensures)
     (toZ-ofZ {w = w32} (search needs)) (toZ-ofZ {w = w32} (search needs))
 
 pub answer-spec : {M : Type 1} → statement M
