@@ -4,12 +4,17 @@ ghost use mathlib.Core.Path.{_≡_};
 ghost use lib.ListN.{take};
 ghost use Rattle.io.specs.Counts.{Counts};
 ghost use Rattle.catalog.specs.Listing.{listingOf};
+use format::header;
+use format::raw;
 use libc::STDERR_FILENO;
 use libc::STDIN_FILENO;
 use libc::STDOUT_FILENO;
 
 // The header, 2,600 lines and the totals, 64 bytes each.
-const ROOM: usize = 166528;
+const ROOM: usize = 64 * (header::MOST + 2);
+
+// "at most 62,409 bytes": one more than the longest run has.
+const MOST_READ: usize = header::SIZE + raw::SIZE * header::MOST + 1;
 
 // How many bytes were read, and whether a read failed before the input's end.
 struct Input {
@@ -64,7 +69,7 @@ fn main() {
         io::write_all(STDERR_FILENO, b"usage: listing <FILE\n");
         return;
     }
-    let mut file = [0u8; 62409];
+    let mut file = [0u8; MOST_READ];
     let input = read_input(STDIN_FILENO, &mut file);
     if input.failed {
         os::fail(b"listing: standard input can't be read");
