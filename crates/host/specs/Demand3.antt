@@ -23,6 +23,8 @@ use Rattle.unit.specs.declared.Answer.{Answer}
 use Rattle.unit.specs.declared.Sample.{Sample}
 use Rattle.unit.specs.declared.State.{State}
 
+-- The quotes below are from 01, "The list in demand 3", where the trust is not named.
+
 -- "in the plain form or lent, in any mixture"
 pub data Form : Type 0 where
   plain lent : Form
@@ -55,7 +57,7 @@ Meets (c ∷ before) = Promised (c .form) (stateLeft before) (c .sample) (c .ans
 unfoldable pub acceptedOf : List Call → List Sample
 acceptedOf l = accepted (map (λ c. c .sample) l)
 
--- the alert in the answer to the last accepted sample; 0 where there was none: "it is dark at the start"
+-- the alert in the answer to the last accepted sample; 0 where there was none: "it is dark at the start" (the trust)
 unfoldable pub alertShown : List Call → ℕ
 alertShown [] = 0
 alertShown (c ∷ before) = cond (eqb (refusal (c .sample)) 0) (c .answer .alert) (alertShown before)
@@ -70,9 +72,9 @@ pub record Demand3 : Type 0 where
   pub rules :
       (c : Call) (before : List Call) → Meets (c ∷ before)
       → c .answer ≡ cond (eqb (refusal (c .sample)) 0) (shows (c .sample) (acceptedOf before)) (refusedOf (refusal (c .sample)))
-  -- "this is so at each accepted one": red is alert 2 and the command is shown where guidance is 1, each in the call's own answer
+  -- "this is so at each accepted one" (the trust): red is alert 2 and the command is shown where guidance is 1, each in the call's own answer
   pub lone :
       (c : Call) (before : List Call) → Meets (c ∷ before) → refusal (c .sample) ≡ 0
       → Demand3At windows (c .sample) (acceptedOf before) (eqb (alertShown before) 2) (eqb (c .answer .alert) 2) (eqb (c .answer .guidance) 1) (c .answer .command)
-  -- "The same holds at each record of every accepted run."
+  -- "The same holds at each record of every accepted run." (the trust)
   pub run : Demand3Run
