@@ -42,15 +42,22 @@
 extern "C" {
 #endif
 
+/* A run file's sizes in bytes, and the greatest count of its records: a file is a header and then count records. */
+#define WINDSHEAR_HEADER_SIZE 8
+#define WINDSHEAR_RECORD_SIZE 24
+#define WINDSHEAR_MAX_RECORDS 2600
+/* The bytes that windshear_run writes for each record. A struct windshear_answer is another thing, and larger. */
+#define WINDSHEAR_ANSWER_SIZE 10
+
 /* The refusal numbers, in the order tested: what `refusal` holds, and what a writer answers. */
 enum windshear_refusal {
     WINDSHEAR_ACCEPTED = 0,
-    WINDSHEAR_REFUSED_SHORT = 1,   /* file shorter than 8 bytes */
+    WINDSHEAR_REFUSED_SHORT = 1,   /* file shorter than WINDSHEAR_HEADER_SIZE */
     WINDSHEAR_REFUSED_MARK = 2,    /* mark is not WSR */
     WINDSHEAR_REFUSED_VERSION = 3, /* version is not 1 */
     WINDSHEAR_REFUSED_ZERO = 4,    /* sixth byte is not zero */
-    WINDSHEAR_REFUSED_COUNT = 5,   /* count above 2,600 */
-    WINDSHEAR_REFUSED_LENGTH = 6,  /* length is not 8 + 24 x count */
+    WINDSHEAR_REFUSED_COUNT = 5,   /* count above WINDSHEAR_MAX_RECORDS */
+    WINDSHEAR_REFUSED_LENGTH = 6,  /* length is not WINDSHEAR_HEADER_SIZE + WINDSHEAR_RECORD_SIZE x count */
     WINDSHEAR_REFUSED_BUFFER = 7,  /* lent buffer has the wrong length */
     WINDSHEAR_REFUSED_STATE = 8,   /* the state is out of range: see windshear_core and windshear_state */
     /* the sample's or the record's field is out of range, or is a float that is not finite */
@@ -66,7 +73,7 @@ enum windshear_refusal {
     WINDSHEAR_REFUSED_DESELECT = 20
 };
 
-/* What `alert` holds, and the first of a record's ten answer bytes. */
+/* What `alert` holds, and the first of a record's WINDSHEAR_ANSWER_SIZE answer bytes. */
 enum windshear_alert { WINDSHEAR_ALERT_NONE = 0, WINDSHEAR_ALERT_AMBER = 1, WINDSHEAR_ALERT_RED = 2 };
 
 /* One sample. A field may hold any value; the comment says what is accepted. */
@@ -86,9 +93,9 @@ struct windshear_sample {
 /* What the unit keeps beside the held shears. Refused by 8: a counter above 600, a command outside -30,000 to 27,000, a last
  * along wind outside -20,000 to 20,000, a last mode outside 0 to 1. Its last two bytes, 22 and 23, are padding. */
 struct windshear_core {
-    int32_t along;     /* the last accepted sample's along wind */
+    int32_t along;     /* the last accepted sample's along wind, 0.01 kt */
     int32_t mode;      /* and its mode */
-    int32_t command;   /* the command; 0 while guidance is off */
+    int32_t command;   /* the command, 0.001 degree; 0 while guidance is off */
     uint16_t seen;     /* counter: 0 while no sample has been accepted */
     uint16_t red;      /* counter: samples for which red has been lit, up to 60 */
     uint16_t amber;    /* counter: the same for amber */
@@ -119,18 +126,19 @@ struct windshear_offered {
     struct windshear_state state;
 };
 
-/* A run file's record: speeds in knots, the rest as in a sample. */
+/* A run file's record: speeds in knots, the rest as in a sample. Accepted is what the sample accepts; of a float, its
+ * hundredths (see windshear_hundredths) are tested, so 200.0 is accepted as along wind and 200.125 is not. */
 struct windshear_record {
-    float along;
-    float vertical;
-    float airspeed;
-    int16_t height;
-    int16_t pitch;
-    int16_t stall;
-    int16_t climb;
-    uint16_t vs1;
-    uint8_t mode;
-    uint8_t deselect;
+    float along;      /* kt, tailwind positive: hundredths -20,000 to 20,000 */
+    float vertical;   /* kt, up positive: hundredths -10,000 to 10,000 */
+    float airspeed;   /* true airspeed, kt: hundredths 6,000 to 60,000 */
+    int16_t height;   /* above ground, ft: -20 to 5,000 */
+    int16_t pitch;    /* 0.001 degree: -30,000 to 30,000 */
+    int16_t stall;    /* stall-warning pitch, 0.001 degree: -10,000 to 30,000 */
+    int16_t climb;    /* ft/min: -10,000 to 10,000 */
+    uint16_t vs1;     /* stall speed Vs1, 0.01 kt: 5,000 to 30,000 */
+    uint8_t mode;     /* 0 take-off, 1 approach */
+    uint8_t deselect; /* 1 when the pilot cancels */
 };
 
 /* What a run is answered: 0 and 0; or a refusal, with the first bad record's place from 0 for 11 to 20, and 0 for the others. */
@@ -163,18 +171,20 @@ struct windshear_converted {
 /* The state that has seen no sample: all fields 0. */
 struct windshear_state windshear_fresh(void);
 
-/* A sample offered to the lent state: refused by 8 or 11 to 20, the state left as it stood; or answered, the state left as the next. */
+/* A sample offered to the lent state: refused by 8 or 11 to 20, the state left as it stood; or answered, the state left as the next.
+ * Look at `refusal` first: a refused answer shows alert 0 though a lamp may be lit, and it stays lit. */
 struct windshear_answer windshear_offer_lent(struct windshear_state *state, struct windshear_sample sample);
 
-/* The same with the state by value. */
+/* The same with the state by value: returned as it was given, or as the next.
+ * Look at `answer.refusal` first: a refused answer shows alert 0 though a lamp may be lit, and it stays lit. */
 struct windshear_offered windshear_offer(struct windshear_state state, struct windshear_sample sample);
 
-/* A whole run file. The answers are 10 bytes a record: alert, voice, the command in 2 (signed), the held shear in 4 (signed),
- * guidance, a zero; the lowest byte first. Refused by 1 to 7 or 11 to 20, the buffer is untouched. */
+/* A whole run file. The answers are WINDSHEAR_ANSWER_SIZE bytes a record: alert, voice, the command in 2 (signed), the held
+ * shear in 4 (signed), guidance, a zero; the lowest byte first. Refused by 1 to 7 or 11 to 20, the buffer is untouched. */
 struct windshear_outcome windshear_run(const uint8_t *file, size_t file_length, uint8_t *answers, size_t answers_length);
 
 /* What windshear_run would answer of the file with an answer buffer of the right length: refused by 1 to 6 or 11 to 20; or
- * refusal 0 and the count, so that the right length is 10 x count. */
+ * refusal 0 and the count, so that the right length is WINDSHEAR_ANSWER_SIZE x count. */
 struct windshear_file_test windshear_test_file(const uint8_t *file, size_t length);
 
 /* The record at a place, from 0, whatever the file holds and whatever the place is:
@@ -182,10 +192,11 @@ struct windshear_file_test windshear_test_file(const uint8_t *file, size_t lengt
  *    refusal 0, found 0: the file has no record there: place is not below its count;
  *    refusal 11 to 20, found 0: that record is refused (others of the file may be good);
  *    refusal 0, found 1: the record, though others of the file may be refused.
- * Writing a record that was found gives its 24 bytes again, and reading one that was written gives its fields again. */
+ * Writing a record that was found gives its bytes again, and reading one that was written gives its fields again. */
 struct windshear_reading windshear_read_record(const uint8_t *file, size_t length, size_t place);
 
-/* A run file's 8 header bytes (refused by 5 or 7) and a record's 24 (refused by 7 or 11 to 20); refused, the buffer is untouched. */
+/* A run file's header, WINDSHEAR_HEADER_SIZE bytes (refused by 5 or 7), and a record, WINDSHEAR_RECORD_SIZE bytes (refused by
+ * 7 or 11 to 20); refused, the buffer is untouched. */
 uint16_t windshear_write_header(uint32_t count, uint8_t *buffer, size_t length);
 uint16_t windshear_write_record(struct windshear_record record, uint8_t *buffer, size_t length);
 

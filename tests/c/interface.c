@@ -16,6 +16,9 @@ _Static_assert(_Alignof(struct windshear_state) == 4 && _Alignof(struct windshea
 enum { PADDING = offsetof(struct windshear_state, core.guidance) + 2 };
 _Static_assert(PADDING == 822 && sizeof(struct windshear_state) - PADDING == 2, "padding");
 
+/* where a record starts in a file, from the file's start; after the last, the file's length */
+#define START(place) (WINDSHEAR_HEADER_SIZE + WINDSHEAR_RECORD_SIZE * (size_t)(place))
+
 static int checks, wrong;
 
 static void check(int ok, const char *what) {
@@ -116,11 +119,11 @@ static void three_records(void) {
     static const float along[3] = {0, 20, 20}, vertical[3] = {0, 0, -10};
     static const struct windshear_answer want[3] = {{0, 0, 0, 0, 0, 0}, {0, WINDSHEAR_ALERT_RED, 1, 1, 5000, 2098349}, {0, WINDSHEAR_ALERT_RED, 1, 1, 5075, 7143}};
     struct windshear_state lent = windshear_fresh(), plain = lent;
-    _Alignas(8) uint8_t room[1 + 8 + 3 * 24];
+    _Alignas(8) uint8_t room[1 + START(3)];
     uint8_t *const file = room + 1;
     const size_t length = sizeof room - 1;
-    uint8_t answers[30], before[30];
-    check(windshear_write_header(3, file, 8) == WINDSHEAR_ACCEPTED, "the header is written");
+    uint8_t answers[3 * WINDSHEAR_ANSWER_SIZE], before[sizeof answers];
+    check(windshear_write_header(3, file, WINDSHEAR_HEADER_SIZE) == WINDSHEAR_ACCEPTED, "the header is written");
     for (int i = 0; i < 3; i++) {
         struct windshear_sample s = calm;
         s.along = (int32_t)(100 * along[i]);
@@ -131,14 +134,14 @@ static void three_records(void) {
         check(same_answer(a, want[i]), "01's answer, lent");
         check(same_answer(o.answer, a) && same_state(&lent, &plain), "both forms agree");
         struct windshear_record r = {along[i], vertical[i], 140, 400, 5000, 20000, -700, 10000, 1, 0};
-        check(windshear_write_record(r, file + 8 + 24 * i, 24) == WINDSHEAR_ACCEPTED, "the record is written");
-        struct windshear_file_test early = windshear_test_file(file, 8 + 24 * (size_t)(i + 1));
+        check(windshear_write_record(r, file + START(i), WINDSHEAR_RECORD_SIZE) == WINDSHEAR_ACCEPTED, "the record is written");
+        struct windshear_file_test early = windshear_test_file(file, START(i + 1));
         check(early.refusal == (i < 2 ? WINDSHEAR_REFUSED_LENGTH : WINDSHEAR_ACCEPTED) && early.place == 0 && early.count == (i < 2 ? 0 : 3), "a file's own test");
     }
     struct windshear_outcome good = windshear_run(file, length, answers, sizeof answers);
     check(good.refusal == WINDSHEAR_ACCEPTED && good.place == 0, "the run is accepted");
     for (int i = 0; i < 3; i++) {
-        const uint8_t *ten = answers + 10 * i;
+        const uint8_t *ten = answers + WINDSHEAR_ANSWER_SIZE * i;
         int16_t command = (int16_t)(ten[2] + 256 * ten[3]);
         uint32_t shear = ten[4] + 256u * ten[5] + 65536u * ten[6] + 16777216u * ten[7];
         check(ten[0] == want[i].alert && ten[1] == want[i].voice && command == want[i].command && (int32_t)shear == want[i].shear && ten[8] == want[i].guidance && ten[9] == 0, "01's ten bytes");
@@ -149,11 +152,11 @@ static void three_records(void) {
         check(r.sample.along == (int32_t)(100 * along[i]) && r.sample.vertical == (int32_t)(100 * vertical[i]) && r.sample.airspeed == calm.airspeed
               && r.sample.height == calm.height && r.sample.pitch == calm.pitch && r.sample.stall == calm.stall && r.sample.climb == calm.climb
               && r.sample.vs1 == calm.vs1 && r.sample.mode == calm.mode && r.sample.deselect == 0, "and its sample");
-        uint8_t again[24];
-        check(windshear_write_record(r.record, again, 24) == WINDSHEAR_ACCEPTED && memcmp(again, file + 8 + 24 * i, 24) == 0, "and written as it was read");
+        uint8_t again[WINDSHEAR_RECORD_SIZE];
+        check(windshear_write_record(r.record, again, sizeof again) == WINDSHEAR_ACCEPTED && memcmp(again, file + START(i), sizeof again) == 0, "and written as it was read");
     }
     memcpy(before, answers, sizeof answers);
-    file[8 + 24 + 22] = 2;
+    file[START(1) + offsetof(struct windshear_record, mode)] = 2;
     struct windshear_outcome bad = windshear_run(file, length, answers, sizeof answers);
     check(bad.refusal == WINDSHEAR_REFUSED_MODE && bad.place == 1, "a bad record's number and place");
     check(memcmp(before, answers, sizeof answers) == 0, "a refused run leaves the buffer");
@@ -173,16 +176,16 @@ static void three_records(void) {
 
 /* The first six numbers, by a file's own test and at every place alike. */
 static void headers(void) {
-    uint8_t good[8], file[8];
-    check(windshear_write_header(0, good, 8) == WINDSHEAR_ACCEPTED, "the header of no records");
+    uint8_t good[WINDSHEAR_HEADER_SIZE], file[sizeof good];
+    check(windshear_write_header(0, good, sizeof good) == WINDSHEAR_ACCEPTED, "the header of no records");
     for (int number = 0; number < 7; number++) {
-        memcpy(file, good, 8);
+        memcpy(file, good, sizeof good);
         if (number == WINDSHEAR_REFUSED_MARK) file[1] = 's';
         if (number == WINDSHEAR_REFUSED_VERSION) file[4] = 1;
         if (number == WINDSHEAR_REFUSED_ZERO) file[5] = 1;
-        if (number == WINDSHEAR_REFUSED_COUNT) file[6] = 0x29, file[7] = 0x0a;
+        if (number == WINDSHEAR_REFUSED_COUNT) file[6] = (WINDSHEAR_MAX_RECORDS + 1) % 256, file[7] = (WINDSHEAR_MAX_RECORDS + 1) / 256;
         if (number == WINDSHEAR_REFUSED_LENGTH) file[6] = 1;
-        size_t length = number == WINDSHEAR_REFUSED_SHORT ? 7 : 8;
+        size_t length = sizeof file - (number == WINDSHEAR_REFUSED_SHORT);
         struct windshear_file_test test = windshear_test_file(file, length);
         check(test.refusal == number && test.place == 0 && test.count == 0, "a header's number");
         for (size_t place = 0; place < 3; place++) {
@@ -193,13 +196,16 @@ static void headers(void) {
 }
 
 static void writers(void) {
-    uint8_t buffer[25];
+    uint8_t buffer[WINDSHEAR_RECORD_SIZE + 1];
+    const size_t shorter = WINDSHEAR_HEADER_SIZE - 1;
     memset(buffer, 0xa5, sizeof buffer);
-    check(windshear_write_header(2601, buffer, 7) == WINDSHEAR_REFUSED_COUNT && windshear_write_header(2600, buffer, 7) == WINDSHEAR_REFUSED_BUFFER, "5, then 7");
+    check(windshear_write_header(WINDSHEAR_MAX_RECORDS + 1, buffer, shorter) == WINDSHEAR_REFUSED_COUNT
+          && windshear_write_header(WINDSHEAR_MAX_RECORDS, buffer, shorter) == WINDSHEAR_REFUSED_BUFFER, "5, then 7");
     struct windshear_record r = {0, 0, 140, 400, 5000, 20000, -700, 10000, 1, 2};
-    check(windshear_write_record(r, buffer, 25) == WINDSHEAR_REFUSED_BUFFER && windshear_write_record(r, buffer, 24) == WINDSHEAR_REFUSED_DESELECT, "7, then 20");
+    check(windshear_write_record(r, buffer, sizeof buffer) == WINDSHEAR_REFUSED_BUFFER
+          && windshear_write_record(r, buffer, WINDSHEAR_RECORD_SIZE) == WINDSHEAR_REFUSED_DESELECT, "7, then 20");
     r.along = __builtin_nanf("");
-    check(windshear_write_record(r, buffer, 24) == WINDSHEAR_REFUSED_ALONG, "a float that is no number");
+    check(windshear_write_record(r, buffer, WINDSHEAR_RECORD_SIZE) == WINDSHEAR_REFUSED_ALONG, "a float that is no number");
     for (size_t i = 0; i < sizeof buffer; i++) check(buffer[i] == 0xa5, "a refused write leaves the buffer");
     struct windshear_converted h = windshear_hundredths(0xbe000000u), none = windshear_hundredths(0x7f800000u);
     check(h.finite == 1 && h.hundredths == -13 && none.finite == 0 && none.hundredths == 0, "a float's hundredths");

@@ -1,5 +1,6 @@
-/* The header as C++: 01's three records lent, in the plain form and as a run file, and a float's hundredths. */
+/* The header as C++: 01's three records lent, in the plain form and as a run file that is read back, and a float's hundredths. */
 #include "windshear.h"
+#include <cstddef>
 #include <cstdint>
 #include <cstdio>
 
@@ -17,31 +18,68 @@ static bool same(const windshear_answer &a, const windshear_answer &b) {
     return a.refusal == b.refusal && a.alert == b.alert && a.voice == b.voice && a.guidance == b.guidance && a.command == b.command && a.shear == b.shear;
 }
 
+/* Two samples, or two records. */
+template <class T> static bool same_fields(const T &a, const T &b) {
+    return a.along == b.along && a.vertical == b.vertical && a.airspeed == b.airspeed && a.height == b.height && a.pitch == b.pitch && a.stall == b.stall
+           && a.climb == b.climb && a.vs1 == b.vs1 && a.mode == b.mode && a.deselect == b.deselect;
+}
+
+/* No record, and this refusal. */
+static bool unread(const windshear_reading &r, int refusal) {
+    return r.found == 0 && r.refusal == refusal && same_fields(r.record, windshear_record{}) && same_fields(r.sample, windshear_sample{});
+}
+
+/* Where a record starts in a file, from the file's start; after the last, the file's length. */
+static constexpr std::size_t start(std::size_t place) { return WINDSHEAR_HEADER_SIZE + WINDSHEAR_RECORD_SIZE * place; }
+
 int main() {
-    const windshear_answer want[3] = {{0, 0, 0, 0, 0, 0}, {0, 2, 1, 1, 5000, 2098349}, {0, 2, 1, 1, 5075, 7143}};
+    const windshear_answer want[3] = {{0, 0, 0, 0, 0, 0}, {0, WINDSHEAR_ALERT_RED, 1, 1, 5000, 2098349}, {0, WINDSHEAR_ALERT_RED, 1, 1, 5075, 7143}};
     const int32_t along[3] = {0, 2000, 2000}, vertical[3] = {0, 0, -1000};
+    windshear_sample samples[3];
+    windshear_record records[3];
     windshear_state lent = windshear_fresh(), plain = lent;
-    uint8_t file[8 + 3 * 24], answers[30] = {};
-    check(windshear_write_header(3, file, 8) == 0, "the header is written");
+    uint8_t file[start(3)], answers[3 * WINDSHEAR_ANSWER_SIZE] = {};
+    check(windshear_write_header(3, file, WINDSHEAR_HEADER_SIZE) == WINDSHEAR_ACCEPTED, "the header is written");
     for (int i = 0; i < 3; i++) {
-        const windshear_sample s = {along[i], vertical[i], 14000, 400, 5000, 20000, -700, 10000, 1, 0};
-        check(same(windshear_offer_lent(&lent, s), want[i]), "01's answer, lent");
-        const windshear_offered offered = windshear_offer(plain, s);
+        samples[i] = {along[i], vertical[i], 14000, 400, 5000, 20000, -700, 10000, 1, 0};
+        check(same(windshear_offer_lent(&lent, samples[i]), want[i]), "01's answer, lent");
+        const windshear_offered offered = windshear_offer(plain, samples[i]);
         plain = offered.state;
         check(same(offered.answer, want[i]), "01's answer, plain");
-        const windshear_record r = {along[i] / 100.0f, vertical[i] / 100.0f, 140, 400, 5000, 20000, -700, 10000, 1, 0};
-        check(windshear_write_record(r, file + 8 + 24 * i, 24) == 0, "the record is written");
+        records[i] = {along[i] / 100.0f, vertical[i] / 100.0f, 140, 400, 5000, 20000, -700, 10000, 1, 0};
+        check(windshear_write_record(records[i], file + start(i), WINDSHEAR_RECORD_SIZE) == WINDSHEAR_ACCEPTED, "the record is written");
     }
-    windshear_sample bad = {};
-    check(windshear_offer_lent(&lent, bad).refusal == 13, "a refused sample");
+    check(windshear_offer_lent(&lent, windshear_sample{}).refusal == WINDSHEAR_REFUSED_AIRSPEED, "a refused sample");
+    check(windshear_write_header(WINDSHEAR_MAX_RECORDS + 1, file, WINDSHEAR_HEADER_SIZE) == WINDSHEAR_REFUSED_COUNT, "a header of too many records");
 
+    /* the written file, whole */
+    windshear_file_test test = windshear_test_file(file, sizeof file);
+    check(test.refusal == WINDSHEAR_ACCEPTED && test.place == 0 && test.count == 3, "the file's own test");
     windshear_outcome outcome = windshear_run(file, sizeof file, answers, sizeof answers);
-    check(outcome.refusal == 0 && outcome.place == 0, "the run is accepted");
-    for (int i = 0; i < 3; i++)
-        check(answers[10 * i] == want[i].alert && answers[10 * i + 1] == want[i].voice && answers[10 * i + 8] == want[i].guidance, "01's ten bytes");
-    file[8 + 24 + 22] = 2;
+    check(outcome.refusal == WINDSHEAR_ACCEPTED && outcome.place == 0, "the run is accepted");
+    for (int i = 0; i < 3; i++) {
+        const uint8_t *answer = answers + WINDSHEAR_ANSWER_SIZE * i;
+        check(answer[0] == want[i].alert && answer[1] == want[i].voice && answer[8] == want[i].guidance, "01's ten bytes");
+        const windshear_reading r = windshear_read_record(file, sizeof file, i);
+        check(r.found == 1 && r.refusal == WINDSHEAR_ACCEPTED, "a record is found");
+        check(same_fields(r.record, records[i]) && same_fields(r.sample, samples[i]), "as it was written, with its sample");
+    }
+    const std::size_t beyond[2] = {3, SIZE_MAX};
+    for (const std::size_t place : beyond)
+        check(unread(windshear_read_record(file, sizeof file, place), WINDSHEAR_ACCEPTED), "a place beyond the count");
+
+    /* its second record refused, and then the file by its length */
+    file[start(1) + offsetof(windshear_record, mode)] = 2;
     outcome = windshear_run(file, sizeof file, answers, sizeof answers);
-    check(outcome.refusal == 19 && outcome.place == 1, "a bad record's number and place");
+    check(outcome.refusal == WINDSHEAR_REFUSED_MODE && outcome.place == 1, "a bad record's number and place");
+    test = windshear_test_file(file, sizeof file);
+    check(test.refusal == WINDSHEAR_REFUSED_MODE && test.place == 1 && test.count == 0, "the same by the file's own test");
+    check(unread(windshear_read_record(file, sizeof file, 1), WINDSHEAR_REFUSED_MODE), "a record that is refused");
+    check(same_fields(windshear_read_record(file, sizeof file, 2).record, records[2]), "the next is read all the same");
+    test = windshear_test_file(file, start(2));
+    check(test.refusal == WINDSHEAR_REFUSED_LENGTH && test.place == 0 && test.count == 0, "a file that is refused");
+    for (std::size_t place = 0; place < 4; place++)
+        check(unread(windshear_read_record(file, start(2), place), WINDSHEAR_REFUSED_LENGTH), "and at every place");
 
     const auto eighth = windshear_hundredths(0xbe000000u), infinite = windshear_hundredths(0x7f800000u);
     check(eighth.finite == 1 && eighth.hundredths == -13 && infinite.finite == 0 && infinite.hundredths == 0, "a float's hundredths");

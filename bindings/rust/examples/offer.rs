@@ -2,6 +2,7 @@
 
 use windshear::{
     read_record, run, test_file, write_header, write_record, Alert, Record, Sample, State,
+    ANSWER_SIZE, HEADER_SIZE, RECORD_SIZE,
 };
 
 /// The lamp after samples of these along winds, in 0.01 kt, on an approach at 400 ft.
@@ -33,14 +34,15 @@ pub fn lamp_after(along_winds: &[i32]) -> Alert {
 
 /// The ten answer bytes of a run of one record; or the number that refuses the record.
 pub fn answer_to(record: &Record) -> Result<Vec<u8>, u16> {
-    let mut file = [0; 8 + 24];
-    let number = write_header(1, &mut file[..8]).max(write_record(record, &mut file[8..]));
+    let mut file = [0; HEADER_SIZE + RECORD_SIZE];
+    let (header, body) = file.split_at_mut(HEADER_SIZE);
+    let number = write_header(1, header).max(write_record(record, body));
     if number != 0 {
         return Err(number);
     }
     let (read, sample) = read_record(&file, 0).expect("what was written is read");
     println!("{read:?} is taken as {sample:?}");
-    let mut answers = vec![0; 10 * usize::from(test_file(&file).count)];
+    let mut answers = vec![0; ANSWER_SIZE * usize::from(test_file(&file).count)];
     let outcome = run(&file, &mut answers);
     assert_eq!(outcome.refusal, 0);
     Ok(answers)

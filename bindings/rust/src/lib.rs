@@ -1,5 +1,7 @@
 //! The proved windshear unit and its run files, for Rust programs. Every function takes every value: what is out of range is refused by its number.
 //!
+//! It is for x86-64 Linux only: it links target/staticlib/libhost.a, which `rt staticlib host` writes.
+//!
 //! ```
 //! use windshear::{refusal, Alert, Sample, State};
 //!
@@ -15,19 +17,59 @@
 //! assert_eq!(state.offer_lent(sample).lamp(), Err(refusal::ALONG));
 //! ```
 
-/// One of the twenty samples of a second, in the units of 01's table.
+// a public field without its unit and range is refused where warnings are errors
+#![warn(missing_docs)]
+
+/// The bytes of a run file's header. A file is a header and then its records.
+///
+/// ```
+/// use windshear::{refusal, run, test_file, write_header, write_record, Outcome, Record};
+/// use windshear::{ANSWER_SIZE, HEADER_SIZE, MAX_RECORDS, RECORD_SIZE};
+///
+/// let record = Record { airspeed: 140.0, vs1: 10_000, ..Record::default() };
+/// let mut file = vec![0; HEADER_SIZE + RECORD_SIZE * MAX_RECORDS];
+/// let (header, records) = file.split_at_mut(HEADER_SIZE);
+/// assert_eq!(write_header(MAX_RECORDS as u32 + 1, header), refusal::COUNT);
+/// assert_eq!(write_header(MAX_RECORDS as u32, header), 0);
+/// for bytes in records.chunks_mut(RECORD_SIZE) {
+///     assert_eq!(write_record(&record, bytes), 0);
+/// }
+/// assert_eq!(usize::from(test_file(&file).count), MAX_RECORDS);
+/// let mut answers = vec![1; ANSWER_SIZE * MAX_RECORDS];
+/// assert_eq!(run(&file, &mut answers), Outcome::default());
+/// assert!(answers.iter().all(|&byte| byte == 0));
+/// ```
+pub const HEADER_SIZE: usize = 8;
+/// The bytes of a run file's record.
+pub const RECORD_SIZE: usize = 24;
+/// The greatest count of records that a run file may have.
+pub const MAX_RECORDS: usize = 2_600;
+/// The bytes that [`run`] writes for each record. An [`Answer`] is another thing, and larger.
+pub const ANSWER_SIZE: usize = 10;
+
+/// One sample; twenty make a second. A field may hold any value; each says what is accepted. The default is all zeros, and is refused.
 #[repr(C)]
 #[derive(Clone, Copy, Debug, Default, PartialEq, Eq)]
 pub struct Sample {
+    /// along wind, 0.01 kt, tailwind positive: -20,000 to 20,000
     pub along: i32,
+    /// vertical wind, 0.01 kt, up positive: -10,000 to 10,000
     pub vertical: i32,
+    /// true airspeed, 0.01 kt: 6,000 to 60,000
     pub airspeed: i32,
+    /// height above ground, ft: -20 to 5,000
     pub height: i32,
+    /// pitch, 0.001 degree: -30,000 to 30,000
     pub pitch: i32,
+    /// stall-warning pitch, 0.001 degree: -10,000 to 30,000
     pub stall: i32,
+    /// climb, ft/min: -10,000 to 10,000
     pub climb: i32,
+    /// stall speed Vs1, 0.01 kt: 5,000 to 30,000
     pub vs1: i32,
+    /// 0 take-off, 1 approach
     pub mode: i32,
+    /// 1 when the pilot cancels, else 0
     pub deselect: i32,
 }
 
@@ -38,31 +80,41 @@ impl From<[i32; 10]> for Sample {
     }
 }
 
-/// What the unit keeps from sample to sample, beside the held shears.
+/// What the unit keeps from sample to sample, beside the held shears. A field outside its range, or a counter above 600, is refused by [`refusal::STATE`].
 #[repr(C)]
 #[derive(Clone, Copy, Debug, PartialEq, Eq)]
 pub struct Core {
+    /// the last accepted sample's along wind, 0.01 kt: -20,000 to 20,000
     pub along: i32,
+    /// the last accepted sample's mode: 0 or 1
     pub mode: i32,
+    /// the command, 0.001 degree: -30,000 to 27,000; 0 while guidance is off
     pub command: i32,
+    /// counter: 0 while no sample has been accepted
     pub seen: u16,
+    /// counter: samples for which red has been lit, up to 60
     pub red: u16,
+    /// counter: the same for amber
     pub amber: u16,
+    /// counter: samples since the voice was given, that one included, up to 73; 0: none since the last mode change
     pub voice: u16,
+    /// counter: 0 is off; else one more than the samples in a row that have counted towards its end
     pub guidance: u16,
 }
 
-/// The unit's state: the last two hundred held shears, the newest first, and the core.
+/// The unit's state, which the host keeps: it is returned or lent from sample to sample. A held shear outside its range is refused by [`refusal::STATE`].
 #[repr(C)]
 #[derive(Clone, Copy, Debug, PartialEq, Eq)]
 pub struct State {
+    /// the last two hundred held shears, hundred-thousandths, the newest first; 0 before the first sample: -50,000,000 to 50,000,000
     pub held: [i32; 200],
+    /// the rest of the state
     pub core: Core,
 }
 
 /// The refusal numbers, in the order tested. 0 refuses nothing.
 pub mod refusal {
-    /// file shorter than 8 bytes
+    /// file shorter than [`HEADER_SIZE`](crate::HEADER_SIZE)
     pub const SHORT: u16 = 1;
     /// mark is not `WSR`
     pub const MARK: u16 = 2;
@@ -70,32 +122,44 @@ pub mod refusal {
     pub const VERSION: u16 = 3;
     /// sixth byte is not zero
     pub const ZERO: u16 = 4;
-    /// count above 2,600
+    /// count above [`MAX_RECORDS`](crate::MAX_RECORDS)
     pub const COUNT: u16 = 5;
-    /// length is not 8 + 24 × count
+    /// length is not [`HEADER_SIZE`](crate::HEADER_SIZE) + [`RECORD_SIZE`](crate::RECORD_SIZE) × count
     pub const LENGTH: u16 = 6;
     /// lent buffer has the wrong length
     pub const BUFFER: u16 = 7;
     /// the state is out of range: a held shear, a counter, the command, the last along wind or the last mode
     pub const STATE: u16 = 8;
-    /// this field of a sample or a record, and each below, is out of range or a float that is not finite
+    /// along wind of a sample or a record out of range, or a float that is not finite
     pub const ALONG: u16 = 11;
+    /// vertical wind out of range, or a float that is not finite
     pub const VERTICAL: u16 = 12;
+    /// true airspeed out of range, or a float that is not finite
     pub const AIRSPEED: u16 = 13;
+    /// height above ground out of range
     pub const HEIGHT: u16 = 14;
+    /// pitch out of range
     pub const PITCH: u16 = 15;
+    /// stall-warning pitch out of range
     pub const STALL: u16 = 16;
+    /// climb out of range
     pub const CLIMB: u16 = 17;
+    /// stall speed Vs1 out of range
     pub const VS1: u16 = 18;
+    /// mode is neither 0 nor 1
     pub const MODE: u16 = 19;
+    /// deselect is neither 0 nor 1
     pub const DESELECT: u16 = 20;
 }
 
 /// Which lamp is lit.
 #[derive(Clone, Copy, Debug, PartialEq, Eq)]
 pub enum Alert {
+    /// both are dark
     None,
+    /// amber: red is dark
     Amber,
+    /// red: amber is dark
     Red,
 }
 
@@ -109,10 +173,13 @@ pub struct Answer {
     pub refusal: u16,
     /// 0 none, 1 amber, 2 red, where `refusal` is 0
     pub alert: u16,
+    /// the voice's cycle, 1, 2 or 3; 0 for none
     pub voice: u16,
-    /// 1 where the command is shown
+    /// 1 where the command is shown, else 0
     pub guidance: u16,
+    /// the command, 0.001 degree: -30,000 to 27,000; 0 while guidance is off
     pub command: i32,
+    /// held shear, hundred-thousandths: -50,000,000 to 50,000,000
     pub shear: i32,
 }
 
@@ -122,36 +189,53 @@ struct Offered {
     state: State,
 }
 
-/// A record of a run file: its speeds in knots, kept bit for bit; its other fields in the units of 01's table.
+/// A record of a run file: its speeds in knots, kept bit for bit; its other fields as in a [`Sample`]. The default is all zeros, and is refused.
+///
+/// Of a float its [`hundredths`] are tested, so 200.0 is accepted as along wind and 200.125 is not; one that is not finite is refused.
 #[repr(C)]
 #[derive(Clone, Copy, Debug, Default, PartialEq)]
 pub struct Record {
+    /// along wind, kt, tailwind positive: hundredths -20,000 to 20,000
     pub along: f32,
+    /// vertical wind, kt, up positive: hundredths -10,000 to 10,000
     pub vertical: f32,
+    /// true airspeed, kt: hundredths 6,000 to 60,000
     pub airspeed: f32,
+    /// height above ground, ft: -20 to 5,000
     pub height: i16,
+    /// pitch, 0.001 degree: -30,000 to 30,000
     pub pitch: i16,
+    /// stall-warning pitch, 0.001 degree: -10,000 to 30,000
     pub stall: i16,
+    /// climb, ft/min: -10,000 to 10,000
     pub climb: i16,
+    /// stall speed Vs1, 0.01 kt: 5,000 to 30,000
     pub vs1: u16,
+    /// 0 take-off, 1 approach
     pub mode: u8,
+    /// 1 when the pilot cancels, else 0
     pub deselect: u8,
 }
 
-/// What a run is answered: zeros, or a refusal number and the bad record's place from 0 (0 too where no record is at fault).
+/// What a run is answered.
 #[repr(C)]
 #[derive(Clone, Copy, Debug, Default, PartialEq, Eq)]
 pub struct Outcome {
+    /// 0 where the file was run; or a number of [`refusal`]: 1 to 7, or 11 to 20
     pub refusal: u16,
+    /// for 11 to 20 the first bad record's place from 0; else 0
     pub place: u16,
 }
 
-/// A file's own test: zeros and how many records it has; or a refusal number with its place, as [`Outcome`] has them, and 0.
+/// A file's own test.
 #[repr(C)]
 #[derive(Clone, Copy, Debug, Default, PartialEq, Eq)]
 pub struct FileTest {
+    /// 0 where [`run`] would run the file; or a number of [`refusal`]: 1 to 6, or 11 to 20
     pub refusal: u16,
+    /// for 11 to 20 the first bad record's place from 0; else 0
     pub place: u16,
+    /// how many records the file has, 0 to [`MAX_RECORDS`], where `refusal` is 0; else 0
     pub count: u16,
 }
 
@@ -198,7 +282,9 @@ impl State {
         unsafe { windshear_fresh() }
     }
 
-    /// A sample offered in the plain form: the answer, and the state after it.
+    /// A sample offered in the plain form: the answer, and the state after it, which is this one where the sample is refused.
+    /// A refused answer says nothing of the lamps: see [`Answer`].
+    #[must_use = "the state after the sample is returned, and a refused sample leaves the lamps as they were"]
     pub fn offer(self, sample: Sample) -> (Answer, State) {
         // SAFETY: the function is proved to be defined for every State and every Sample.
         let offered = unsafe { windshear_offer(self, sample) };
@@ -207,6 +293,7 @@ impl State {
 
     /// A sample offered in the lent form: the state is left as the one after it, or as it stood where the sample is refused.
     /// A refused answer says nothing of the lamps: see [`Answer`].
+    #[must_use = "a refused sample leaves the lamps as they were"]
     pub fn offer_lent(&mut self, sample: Sample) -> Answer {
         // SAFETY: the function is proved to be defined for every State and every Sample, and to leave a State.
         unsafe { windshear_offer_lent(self, sample) }
@@ -234,24 +321,27 @@ impl Answer {
 /// The hundredths that the float of a pattern becomes, cut at a million either way; `None` where it is not finite.
 pub fn hundredths(bits: u32) -> Option<i32> {
     // SAFETY: the function is proved to be defined for every pattern, and takes no pointer.
-    let found = unsafe { windshear_hundredths(bits) };
-    (found.finite != 0).then_some(found.hundredths)
+    let converted = unsafe { windshear_hundredths(bits) };
+    (converted.finite != 0).then_some(converted.hundredths)
 }
 
-/// Writes the header of a run file of so many records and answers 0; or answers 5 or 7, and the buffer stays as it was.
+/// Writes the header of a run file of so many records into [`HEADER_SIZE`] bytes and answers 0; or answers 5 or 7, and the buffer stays as it was.
+#[must_use = "where it is not 0, no header was written"]
 pub fn write_header(count: u32, buf: &mut [u8]) -> u16 {
     // SAFETY: pointer and length are those of a slice that is ours alone during the call; the function
     // is proved to be defined for every count and every length, and to write nothing outside the slice.
     unsafe { windshear_write_header(count, buf.as_mut_ptr(), buf.len()) }
 }
 
-/// Writes a record of a run file and answers 0; or answers 7 or 11 to 20, and the buffer stays as it was.
+/// Writes a record of a run file into [`RECORD_SIZE`] bytes and answers 0; or answers 7 or 11 to 20, and the buffer stays as it was.
+#[must_use = "where it is not 0, no record was written"]
 pub fn write_record(record: &Record, buf: &mut [u8]) -> u16 {
     // SAFETY: as for `write_header`; the function is defined for every record, whatever its floats.
     unsafe { windshear_write_record(*record, buf.as_mut_ptr(), buf.len()) }
 }
 
-/// What [`run`] would answer of the file with an answer buffer of the right length, ten bytes a record, and how many records it has.
+/// What [`run`] would answer of the file with an answer buffer of the right length, [`ANSWER_SIZE`] bytes a record, and how many records it has.
+#[must_use]
 pub fn test_file(file: &[u8]) -> FileTest {
     // SAFETY: pointer and length are those of a slice; the function is proved to be defined for all contents and lengths, and writes nothing.
     unsafe { windshear_test_file(file.as_ptr(), file.len()) }
@@ -260,12 +350,12 @@ pub fn test_file(file: &[u8]) -> FileTest {
 /// The record at a place from 0, as the file has it, and the sample that a run takes it as. Other records of the file may be refused.
 ///
 /// ```
-/// use windshear::{read_record, refusal, write_header, write_record, Record, Unread};
+/// use windshear::{read_record, refusal, write_header, write_record, Record, Unread, HEADER_SIZE, RECORD_SIZE};
 ///
 /// let record = Record { along: -0.0, airspeed: 140.0, height: 400, vs1: 10_000, ..Record::default() };
-/// let mut file = [0; 8 + 24];
-/// assert_eq!(write_header(1, &mut file[..8]), 0);
-/// assert_eq!(write_record(&record, &mut file[8..]), 0);
+/// let mut file = [0; HEADER_SIZE + RECORD_SIZE];
+/// assert_eq!(write_header(1, &mut file[..HEADER_SIZE]), 0);
+/// assert_eq!(write_record(&record, &mut file[HEADER_SIZE..]), 0);
 /// let (read, sample) = read_record(&file, 0).unwrap();
 /// assert!(read == record && read.along.is_sign_negative() && sample.airspeed == 14_000);
 /// assert_eq!(read_record(&file, 1), Err(Unread::NoSuchPlace));
@@ -281,7 +371,9 @@ pub fn read_record(file: &[u8], place: usize) -> Result<(Record, Sample), Unread
     }
 }
 
-/// Runs a whole file from the fresh state: ten bytes a record into `answers`, or a refusal, and `answers` stays as it was.
+/// Runs a whole file from the fresh state: [`ANSWER_SIZE`] bytes a record into `answers`, or a refusal, and `answers` stays as it was.
+/// The bytes are alert, voice, the command in 2 (signed), the held shear in 4 (signed), guidance, a zero; the lowest byte first.
+#[must_use = "a refused run leaves the answers as they were"]
 pub fn run(file: &[u8], answers: &mut [u8]) -> Outcome {
     // SAFETY: pointers and lengths are those of two slices that do not overlap, the second ours alone
     // during the call; the function is proved to be defined for all contents and lengths, to write
