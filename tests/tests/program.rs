@@ -372,7 +372,8 @@ fn nothing_is_left_behind() {
     let fifo = folder.join("fifo");
     assert!(Command::new("mkfifo").arg(&fifo).status().unwrap().success());
     let mut cases = Vec::new();
-    for (name, status) in [("HUP", 129), ("INT", 130), ("KILL", 137), ("TERM", 143)] {
+    // not HUP or INT: whoever runs the tests may have them ignored, as nohup does, and a child inherits that
+    for (name, status) in [("KILL", 137), ("TERM", 143)] {
         let child = list(&fifo).current_dir(&folder).env("TMPDIR", &folder).process_group(0).spawn().unwrap();
         // opens once the other end is open too
         let writer = OpenOptions::new().write(true).open(&fifo).unwrap();
