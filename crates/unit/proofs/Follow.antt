@@ -13,9 +13,9 @@ use lib.Seq.{take-take, take-append-le, length-take-le}
 use lib.Signed.{leZ}
 use native.Mathlib.Decide.{decLt}
 use Rattle.rounding.specs.Fraction.{sumℤ}
-use Rattle.unit.specs.Choice.{within, same, smaller, anyOf}
+use Rattle.unit.specs.Choice.{same, smaller, anyOf}
 use Rattle.unit.specs.Claims.{shows}
-use Rattle.unit.specs.Rules.{change, held, entry, entries, row, windows, lastOf, windowSum, metUp, metDown, inBand, condition, redCondition, amberCondition, litFor, redFor, redLit, redComesOn, amberFor, amberLit, modeChange, voiceFor, cycle, voice, counted, cap, towards, Guidance, off, on, guided, guidanceBy, guidance, isOn, commandOf}
+use Rattle.unit.specs.Rules.{change, held, entry, entries, row, windows, lastOf, windowSum, metUp, metDown, inBand, condition, redCondition, amberCondition, litFor, redFor, redLit, redComesOn, amberFor, amberLit, modeChange, voiceFor, cycle, voice, counted, cap, towards, Guidance, off, on, guided, guidanceBy, guidance, isOn, commandOf, inside, band}
 use Rattle.unit.specs.Steps.{pushed, sumsOf, sumList, reached, someReached, metOf, shearOf, entryOf, windowsOf, lampNext, unlessLit, lampsOf, changedOf, keptOf, voiceNext, voiceOf, noGuide, startedOf, continuedOf, guideNext, guideOf, pitchOf, alertOf, shownOf, answerOf, acceptOf}
 use Rattle.unit.specs.declared.Answer.{Answer}
 use Rattle.unit.specs.declared.Offered.{Offered}
@@ -236,11 +236,11 @@ module _ (s : Sample) (l : List Sample) where
   unfolding windowsOf stateOf entries
   entered = rw (push-follows (entries entry l) (entry s l))
 
-  red-holds : (within (pos 50) (s .height) (pos 1000) && metOf true (sumsOf (heldOf (s ∷ l)))) ≡ redCondition (s ∷ l)
+  red-holds : (inside band (s .height) && metOf true (sumsOf (heldOf (s ∷ l)))) ≡ redCondition (s ∷ l)
   unfolding redCondition condition inBand
   red-holds = rw (met-follows (entries entry (s ∷ l)) .0) refl
 
-  amber-holds : (within (pos 50) (s .height) (pos 1000) && metOf false (sumsOf (heldOf (s ∷ l)))) ≡ amberCondition (s ∷ l)
+  amber-holds : (inside band (s .height) && metOf false (sumsOf (heldOf (s ∷ l)))) ≡ amberCondition (s ∷ l)
   unfolding amberCondition condition inBand
   amber-holds = rw (met-follows (entries entry (s ∷ l)) .1) refl
 

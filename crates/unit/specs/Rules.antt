@@ -148,8 +148,11 @@ unfoldable pub metDown : List ℤ → Window → Bool
 metDown l w = leZ (limit w) (negℤ (windowSum (w .samples) l))
 
 -- "height 50 to 1,000, both ends in"
+unfoldable pub band : Range
+band = range (pos 50) (pos 1000)
+
 unfoldable pub inBand : Sample → Bool
-inBand s = within (pos 50) (s .height) (pos 1000)
+inBand s = inside band (s .height)
 
 -- ".. and some window met upward"; amber: "the same, downward". Both may hold at once. Outside the band the windows still fill: `entries`
 -- does not look at the height.

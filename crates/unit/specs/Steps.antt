@@ -9,7 +9,7 @@ use lib.IntN.{ℤ, pos, negℤ, natAbs, _-ℤ_}
 use lib.ListN.{getD, take, replicate}
 use lib.Signed.{leZ, _≤ℤ_}
 use Rattle.unit.specs.Choice.{neg, firstOf, within, same, smaller, every}
-use Rattle.unit.specs.Rules.{ranges, inside, refusal, heldShear, Window, windows, windowSum, limit, cycle, cap, towards, counted}
+use Rattle.unit.specs.Rules.{ranges, inside, refusal, band, heldShear, Window, windows, windowSum, limit, cycle, cap, towards, counted}
 use Rattle.unit.specs.declared.Answer.{Answer}
 use Rattle.unit.specs.declared.Core.{Core}
 use Rattle.unit.specs.declared.Offered.{Offered}
@@ -87,8 +87,8 @@ unlessLit red amber = cond (ltb 0 red) 0 amber
 unfoldable pub lampsOf : State → ℤ → State
 lampsOf t height =
     let c = t .core in
-    let red = lampNext (c .red) (within (pos 50) height (pos 1000) && metOf true (sumsOf (t .held))) in
-    let amber = lampNext (c .amber) (within (pos 50) height (pos 1000) && metOf false (sumsOf (t .held))) in
+    let red = lampNext (c .red) (inside band height && metOf true (sumsOf (t .held))) in
+    let amber = lampNext (c .amber) (inside band height && metOf false (sumsOf (t .held))) in
     record {
       held = t .held;
       core = record { along = c .along; mode = c .mode; command = c .command; seen = c .seen; red = red; amber = unlessLit red amber; voice = c .voice; guidance = c .guidance };

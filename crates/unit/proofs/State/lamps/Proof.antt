@@ -1,6 +1,8 @@
 -- `unit::State::lamps` meets its contract: what the calls ensure.
+use mathlib.Core.Path.{_≡_}
 use borrow.Author.Needs.{needs}
 use mir.Facts.{toZ-ofZ}
+use Rattle.unit.specs.Rules.{inside, band}
 use Rattle.unit.specs.Steps.{lampsOf}
 use Rattle.unit.proofs.State.lamps.Statement.{statement}
 use Rattle.unit.proofs.State.lamps.Tie as tie
@@ -33,14 +35,15 @@ unless-requires : tie.Need-unless-requires
 unless-requires c κs = search needs
 
 returns : tie.Need-returns
-unfolding lampsOf
+unfolding lampsOf inside band
 returns c =
     let lit = c .before .before in
     let down = lit .before .before in
     let up = down .before .before in
-    let band = up .before .before in
-    let h = band .before .before .before .fits .height in
-    let b = simp toZ-ofZ at (band .between .ensures) in
+    let tested = up .before .before in
+    let start = tested .before .before .before in
+    let h = start .fits .height in
+    let b : tested .between .result ≡ inside band (start .args .height) = simp toZ-ofZ at (tested .between .ensures) in
     rw (
       c .unless .ensures,
       c .before .next2 .ensures,
@@ -50,7 +53,7 @@ returns c =
       up .both .ensures,
       up .before .met .ensures,
       b,
-      band .before .all-sums .ensures,
+      tested .before .all-sums .ensures,
     )
 
 pub lamps-spec : {M : Type 1} → statement M
