@@ -2,7 +2,7 @@
  *
  * Every function is defined for every value of its arguments: what is out of range is refused by a number. A pointer must not
  * be NULL, not even where the length is 0, and must be valid for the size given. Two buffers must not overlap, and no other
- * thread may use them meanwhile. A struct must be aligned as C aligns it (4 bytes); a file or a buffer needs no alignment.
+ * thread may use them meanwhile. A lent state must be aligned as C aligns it (4 bytes); a file or a buffer needs no alignment.
  *
  * WARNING: an answer to a refused sample has alert 0, which says nothing of the lamps: they stay as they were. A host that
  * shows `alert` without a look at `refusal` would darken a lit lamp.

@@ -281,7 +281,7 @@ module _ (s : Sample) (l : List Sample) where
   answered : answerOf (stateOf (s ∷ l)) (held s l) ≡ shows s l
   unfolding answerOf stateOf shows redLit amberLit voice
   answered =
-      same-answer (alert-follows (redFor (s ∷ l)) (amberFor (s ∷ l))) (cycle-follows (voiceFor redComesOn (s ∷ l))) (shown-follows (guidance (s ∷ l)))
+      same-answer {command = commandOf (guidance (s ∷ l))} {shear = held s l} (alert-follows (redFor (s ∷ l)) (amberFor (s ∷ l))) (cycle-follows (voiceFor redComesOn (s ∷ l))) (shown-follows (guidance (s ∷ l)))
 
   -- an accepted sample's answer, and the state that it leaves
   pub accept-follows : acceptOf (stateOf l) s ≡ record { answer = shows s l; state = stateOf (s ∷ l) }
