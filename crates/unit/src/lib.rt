@@ -178,13 +178,12 @@ impl State {
         ensures { λ r. ⌜ r ≡ answerOf self x ⌝ }
     {
         let core = self.core;
-        let command = core.command;
         Answer {
             refusal: 0,
             alert: lamps::alert(core.red, core.amber),
             voice: voice::cycle(core.voice),
             guidance: pitch::shown(core.guidance),
-            command: command,
+            command: core.command,
             shear: x,
         }
     }

@@ -30,7 +30,7 @@ fields t x p q r c e = rw (p, q, r, c, e)
 
 returns : tie.Need-returns
 returns c =
-    fields _ _ (c .before .before .alert .ensures) (c .before .cycle .ensures) (c .shown .ensures)
+    fields _ _ (c .before .before .before .alert .ensures) (c .before .before .cycle .ensures) (c .before .shown .ensures)
     (toZ-ofZ {w = w32} (search needs)) (toZ-ofZ {w = w32} (search needs))
 
 pub answer-spec : {M : Type 1} → statement M
