@@ -15,19 +15,19 @@ fn main() {
     assert!(by_plain == by_library);
     assert!(reference::run(&file, 26_000).as_ref() == Ok(&by_library));
 
-    let [library, plain, reference] = medians(
-        201,
-        [
-            &mut || {
-                black_box(windshear::run(black_box(&file), &mut by_library));
-            },
-            &mut || {
-                black_box(plain::run(black_box(&file), &mut by_plain)).unwrap();
-            },
-            &mut || {
-                black_box(reference::run(black_box(&file), 26_000)).unwrap();
-            },
-        ],
-    );
-    report("2,600 records", library, plain, reference);
+    let mut library = || {
+        black_box(windshear::run(black_box(&file), &mut by_library));
+    };
+    let mut plain = || {
+        black_box(plain::run(black_box(&file), &mut by_plain)).unwrap();
+    };
+    let mut reference = || {
+        black_box(reference::run(black_box(&file), 26_000)).unwrap();
+    };
+    let [by_turns, plain_by_turns, reference_by_turns] =
+        medians(201, [&mut library, &mut plain, &mut reference]);
+    report("2,600 records", by_turns, plain_by_turns, reference_by_turns);
+    // each alone, one pass straight after another
+    let ([library], [plain]) = (medians(201, [&mut library]), medians(201, [&mut plain]));
+    println!("2,600 records, each alone: library {library:.3} ms, plain {plain:.3} ms; library / plain {:.1}", library / plain);
 }
