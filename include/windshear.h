@@ -2,7 +2,7 @@
  *
  * Every function is defined for every value of its arguments: what is out of range is refused by a number. A pointer must not
  * be NULL, not even where the length is 0, and must be valid for the size given. Two buffers must not overlap, and no other
- * thread may use them meanwhile. A lent state must be aligned as C aligns it (4 bytes); a file or a buffer needs no alignment.
+ * thread may use them meanwhile. A lent state must be aligned as C aligns it (8 bytes); a file or a buffer needs no alignment.
  *
  * WARNING: an answer to a refused sample has alert 0, which says nothing of the lamps: they stay as they were. A host that
  * shows `alert` without a look at `refusal` would darken a lit lamp.
@@ -59,7 +59,7 @@ enum windshear_refusal {
     WINDSHEAR_REFUSED_COUNT = 5,   /* count above WINDSHEAR_MAX_RECORDS */
     WINDSHEAR_REFUSED_LENGTH = 6,  /* length is not WINDSHEAR_HEADER_SIZE + WINDSHEAR_RECORD_SIZE x count */
     WINDSHEAR_REFUSED_BUFFER = 7,  /* lent buffer has the wrong length */
-    WINDSHEAR_REFUSED_STATE = 8,   /* the state is out of range: see windshear_core and windshear_state */
+    WINDSHEAR_REFUSED_STATE = 8,   /* the state does not pass: see windshear_state */
     /* the sample's or the record's field is out of range, or is a float that is not finite */
     WINDSHEAR_REFUSED_ALONG = 11,
     WINDSHEAR_REFUSED_VERTICAL = 12,
@@ -90,24 +90,62 @@ struct windshear_sample {
     int32_t deselect; /* 1 when the pilot cancels */
 };
 
-/* What the unit keeps beside the held shears. Refused by 8: a counter above 600, a command outside -30,000 to 27,000, a last
- * along wind outside -20,000 to 20,000, a last mode outside 0 to 1. Its last two bytes, 22 and 23, are padding. */
+/* The running sums: each the sum of the newest so many entries of the state's ring, read from its place on. */
+struct windshear_sums {
+    int64_t s200; /* of the newest 200: the whole ring */
+    int64_t s180; /* of the newest 180 */
+    int64_t s160; /* of the newest 160 */
+    int64_t s140; /* of the newest 140 */
+    int64_t s120; /* of the newest 120 */
+    int64_t s100; /* of the newest 100 */
+};
+
+/* What the unit keeps beside the ring. */
 struct windshear_core {
-    int32_t along;     /* the last accepted sample's along wind, 0.01 kt */
-    int32_t mode;      /* and its mode */
-    int32_t command;   /* the command, 0.001 degree; 0 while guidance is off */
-    uint16_t seen;     /* counter: 0 while no sample has been accepted */
+    struct windshear_sums sums;
+    int32_t along;     /* the last accepted sample's along wind, 0.01 kt: -20,000 to 20,000 */
+    int32_t mode;      /* and its mode: 0 or 1 */
+    int32_t command;   /* the command, 0.001 degree: -30,000 to 27,000; 0 while guidance is off */
+    uint16_t seen;     /* counter: 0 while no sample has been accepted, else 1 */
     uint16_t red;      /* counter: samples for which red has been lit, up to 60 */
     uint16_t amber;    /* counter: the same for amber */
     uint16_t voice;    /* counter: samples since the voice was given, that one included, up to 73; 0: none since the last mode change */
     uint16_t guidance; /* counter: 0 is off; else one more than the samples in a row that have counted towards its end */
+    uint16_t place;    /* where the newest entry stands in the ring: 0 to 199 */
 };
 
-/* The state that the host keeps and lends. A held shear beyond 50,000,000 either way is refused by 8.
- * Memory that is all zeros is the fresh state. Its last two bytes, 822 and 823, are padding (the core's), which a call may
- * leave at any values: compare two states field by field, not by memcmp. */
+/* The state that the host keeps and lends. Memory that is all zeros is the fresh state.
+ *
+ * Its entries are the last 200 held shears, 0 before the first sample. They are a ring: the newest stands at `core.place`, each
+ * older one a place further on, and after place 199 comes place 0. The next entry is written one place back, over the oldest,
+ * and is the newest then: from the fresh state the first one goes to place 199.
+ *
+ * It is refused by 8 where an entry is beyond 50,000,000 either way, a counter is above 600, the command, the last along wind,
+ * the last mode or the place is outside its range above, or a sum is not that of its window's entries.
+ *
+ * A host may build a state of its own: the entries, here `entry`, the newest first, from any place below 200 on, each sum anew,
+ * and the rest of the core as it is described above. `last` is the sample that entered the newest; were `seen` left at 0, the
+ * next sample would be taken as the first, with no change of along wind.
+ *
+ *    struct windshear_state state = windshear_fresh();
+ *    state.core.seen = 1;
+ *    state.core.along = last.along;
+ *    state.core.mode = last.mode;
+ *    state.core.place = place;
+ *    for (int i = 0; i < 200; i++) {
+ *        state.held[(place + i) % 200] = entry[i];
+ *        state.core.sums.s200 += entry[i];
+ *        if (i < 180) state.core.sums.s180 += entry[i];
+ *        if (i < 160) state.core.sums.s160 += entry[i];
+ *        if (i < 140) state.core.sums.s140 += entry[i];
+ *        if (i < 120) state.core.sums.s120 += entry[i];
+ *        if (i < 100) state.core.sums.s100 += entry[i];
+ *    }
+ *
+ * There is no padding, so memcmp compares two states as well. Two that differ only in how far the ring is turned, and so in
+ * `place` and in the order of `held`, stand for the same history: every sample gets the same answer from both. */
 struct windshear_state {
-    int32_t held[200]; /* held shears in hundred-thousandths, the newest first */
+    int32_t held[200]; /* the ring: held shears in hundred-thousandths, -50,000,000 to 50,000,000 */
     struct windshear_core core;
 };
 

@@ -5,16 +5,16 @@
 
 #define AT(type, field, offset) _Static_assert(offsetof(struct windshear_##type, field) == offset, #type "." #field)
 #define SIZE(type, size) _Static_assert(sizeof(struct windshear_##type) == size, #type)
-SIZE(sample, 40); SIZE(core, 24); SIZE(state, 824); SIZE(answer, 16); SIZE(offered, 840); SIZE(record, 24); SIZE(outcome, 4); SIZE(converted, 8);
+SIZE(sample, 40); SIZE(sums, 48); SIZE(core, 72); SIZE(state, 872); SIZE(answer, 16); SIZE(offered, 888); SIZE(record, 24); SIZE(outcome, 4); SIZE(converted, 8);
 SIZE(file_test, 6); SIZE(reading, 68);
-AT(core, command, 8); AT(core, seen, 12); AT(core, guidance, 20); AT(state, core, 800); AT(answer, guidance, 6); AT(answer, shear, 12);
+AT(sums, s180, 8); AT(sums, s160, 16); AT(sums, s140, 24); AT(sums, s120, 32); AT(sums, s100, 40);
+AT(core, sums, 0); AT(core, along, 48); AT(core, mode, 52); AT(core, command, 56); AT(core, seen, 60); AT(core, red, 62); AT(core, amber, 64);
+AT(core, voice, 66); AT(core, guidance, 68); AT(core, place, 70); AT(state, held, 0); AT(state, core, 800); AT(answer, guidance, 6); AT(answer, shear, 12);
 AT(offered, state, 16); AT(record, height, 12); AT(record, vs1, 20); AT(record, deselect, 23); AT(outcome, place, 2); AT(converted, hundredths, 4);
 AT(file_test, count, 4); AT(reading, record, 4); AT(reading, sample, 28);
-_Static_assert(_Alignof(struct windshear_state) == 4 && _Alignof(struct windshear_offered) == 4 && _Alignof(struct windshear_reading) == 4, "alignment");
-
-/* where the header says that a state's padding is */
-enum { PADDING = offsetof(struct windshear_state, core.guidance) + 2 };
-_Static_assert(PADDING == 822 && sizeof(struct windshear_state) - PADDING == 2, "padding");
+_Static_assert(_Alignof(struct windshear_state) == 8 && _Alignof(struct windshear_offered) == 8 && _Alignof(struct windshear_reading) == 4, "alignment");
+/* a state has no padding: its size is that of its fields */
+_Static_assert(sizeof(struct windshear_state) == 200 * 4 + 6 * 8 + 3 * 4 + 6 * 2, "padding");
 
 /* where a record starts in a file, from the file's start; after the last, the file's length */
 #define START(place) (WINDSHEAR_HEADER_SIZE + WINDSHEAR_RECORD_SIZE * (size_t)(place))
@@ -27,11 +27,7 @@ static void check(int ok, const char *what) {
 }
 
 static int same_state(const struct windshear_state *a, const struct windshear_state *b) {
-    const struct windshear_core *c = &a->core, *d = &b->core;
-    for (int i = 0; i < 200; i++)
-        if (a->held[i] != b->held[i]) return 0;
-    return c->along == d->along && c->mode == d->mode && c->command == d->command && c->seen == d->seen && c->red == d->red
-           && c->amber == d->amber && c->voice == d->voice && c->guidance == d->guidance;
+    return memcmp(a, b, sizeof *a) == 0;
 }
 
 static int same_answer(struct windshear_answer a, struct windshear_answer b) {
@@ -61,40 +57,119 @@ static void sample_fields(void) {
             }
 }
 
-/* Each field of a state, one beyond its limit: refused by 8, and left as it was. */
-static void state_fields(void) {
-    struct windshear_state fresh = windshear_fresh();
-    for (int i = 0; i < 200 + 3 + 5; i++)
-        for (int beyond = 0; beyond < 2; beyond++) {
-            struct windshear_state state = fresh, before;
-            uint16_t *counter[5] = {&state.core.seen, &state.core.red, &state.core.amber, &state.core.voice, &state.core.guidance};
-            if (i < 200) state.held[i] = 50000000 + beyond;
-            else if (i == 200) state.core.along = -20000 - beyond;
-            else if (i == 201) state.core.mode = 1 + beyond;
-            else if (i == 202) state.core.command = 27000 + beyond;
-            else *counter[i - 203] = (uint16_t)(600 + beyond);
-            before = state;
-            struct windshear_answer a = windshear_offer_lent(&state, calm);
-            check((a.refusal == WINDSHEAR_REFUSED_STATE) == beyond, "8 by one field of the state");
-            check(!beyond || same_state(&state, &before), "a state that 8 refuses is left");
-        }
+/* The state of these entries, the newest first, from a place on, after this sample: by the lines that the header shows, which .ci/run takes out
+ * of it. */
+static struct windshear_state built(const int32_t entry[200], uint16_t place, struct windshear_sample last) {
+#include <built.inc>
+    return state;
 }
 
-/* A state of zero bytes is the fresh one; its padding's bytes change no answer and no field. */
-static void zeroed_and_padded(void) {
-    struct windshear_state fresh = windshear_fresh(), zeroed, padded;
+/* A state that 8 refuses, or not; refused, it is left as it was in both forms. */
+static void tested(struct windshear_state state, int refused, const char *what) {
+    const struct windshear_state before = state;
+    struct windshear_answer want = nothing;
+    want.refusal = WINDSHEAR_REFUSED_STATE;
+    struct windshear_offered o = windshear_offer(state, calm);
+    struct windshear_answer a = windshear_offer_lent(&state, calm);
+    check((a.refusal == WINDSHEAR_REFUSED_STATE) == refused && same_answer(o.answer, a) && same_state(&o.state, &state), what);
+    check(!refused || (same_answer(a, want) && same_state(&state, &before)), "a state that 8 refuses is left");
+    check(refused || windshear_offer_lent(&state, calm).refusal == WINDSHEAR_ACCEPTED, "what a sample leaves passes again");
+}
+
+/* Each field of a state at its limit and one beyond, from a ring of zeros and from one at its limits that is turned. */
+static void state_fields(void) {
+    for (int turned = 0; turned < 2; turned++) {
+        int32_t entry[200] = {0};
+        const uint16_t place = turned ? 57 : 0;
+        for (int i = 0; turned && i < 200; i++) entry[i] = (i % 7 ? 50000000 : -49999000) - i;
+        const struct windshear_state base = built(entry, place, calm);
+        tested(base, 0, "the ring as it is built");
+        for (int beyond = 0; beyond < 2; beyond++) {
+            for (int i = 0; i < 200; i++)
+                for (int sign = -1; sign < 2; sign += 2) {
+                    const int32_t kept = entry[i];
+                    entry[i] = sign * (50000000 + beyond);
+                    tested(built(entry, place, calm), beyond, "8 by an entry, its sums right");
+                    entry[i] = kept;
+                }
+            for (int i = 0; i < 3 + 5; i++) {
+                struct windshear_state state = base;
+                uint16_t *counter[5] = {&state.core.seen, &state.core.red, &state.core.amber, &state.core.voice, &state.core.guidance};
+                if (i == 0) state.core.along = -20000 - beyond;
+                else if (i == 1) state.core.mode = 1 + beyond;
+                else if (i == 2) state.core.command = 27000 + beyond;
+                else *counter[i - 3] = (uint16_t)(600 + beyond);
+                tested(state, beyond, "8 by one field of the state");
+            }
+        }
+        for (int i = 0; i < 6; i++) {
+            static const int64_t off[] = {1, -1, INT64_C(1) << 32, -(INT64_C(1) << 32)};
+            struct windshear_state state = base;
+            int64_t *sum[6] = {&state.core.sums.s200, &state.core.sums.s180, &state.core.sums.s160, &state.core.sums.s140, &state.core.sums.s120, &state.core.sums.s100};
+            const int64_t right = *sum[i];
+            for (size_t k = 0; k < sizeof off / sizeof *off; k++) {
+                *sum[i] = right + off[k];
+                tested(state, 1, "8 by one sum");
+            }
+            *sum[i] = INT64_MAX;
+            tested(state, 1, "8 by the greatest sum");
+            *sum[i] = INT64_MIN;
+            tested(state, 1, "8 by the least sum");
+        }
+        static const uint16_t places[] = {0, 199, 200, 255, 256, 65535};
+        for (size_t k = 0; k < sizeof places / sizeof *places; k++) {
+            struct windshear_state state = base;
+            state.core.place = places[k];
+            /* the ring of zeros is the same from every place, the other from none but its own */
+            tested(state, turned || places[k] > 199, "8 by the place");
+            if (places[k] < 200) tested(built(entry, places[k], calm), 0, "a ring built from that place");
+        }
+    }
+}
+
+/* A ring that is built at any place from the shears answered: the answers are those of the state that the samples left. */
+static void host_built(void) {
+    static struct windshear_state rings[200];
+    struct windshear_state state = windshear_fresh();
+    int32_t entry[200] = {0};
+    for (int i = 0; i < 600; i++) {
+        struct windshear_sample s = calm;
+        s.along = 1200 * (i * i % 11) - 900 * (i % 13);
+        s.vertical = 37 * (i % 29) - 500;
+        s.height = i % 40 ? 400 : 1200;
+        s.mode = i / 170 % 2;
+        struct windshear_answer a = windshear_offer_lent(&state, s);
+        check(a.refusal == WINDSHEAR_ACCEPTED, "a sample of the list");
+        memmove(entry + 1, entry, sizeof entry - sizeof *entry);
+        entry[0] = a.shear;
+        for (int place = 0; place < 200 && i >= 300; place++) {
+            struct windshear_state *ring = &rings[place];
+            if (i > 300) check(same_answer(windshear_offer_lent(ring, s), a), "a built ring answers as the unit's own");
+            struct windshear_state anew = built(entry, i > 300 ? ring->core.place : (uint16_t)place, s);
+            check(anew.core.seen == state.core.seen && anew.core.along == state.core.along && anew.core.mode == state.core.mode, "the last sample is kept");
+            struct windshear_core core = state.core;
+            core.sums = anew.core.sums;
+            core.place = anew.core.place;
+            anew.core = core;
+            if (i == 300) *ring = anew;
+            check(same_state(ring, &anew), "and is left with the same entries and sums");
+        }
+    }
+}
+
+/* A state of zero bytes is the fresh one. */
+static void zeroed_memory(void) {
+    struct windshear_state fresh = windshear_fresh(), zeroed;
     memset(&zeroed, 0, sizeof zeroed);
-    memset(&padded, 0, sizeof padded);
     check(same_state(&zeroed, &fresh), "zeroed memory is the fresh state");
     for (int i = 0; i < 300; i++) {
         struct windshear_sample s = calm;
         s.along = 2000 * (i / 5 % 2);
         s.height = 400 + 7 * i;
         s.mode = i / 90 % 2;
-        memset((char *)&padded + PADDING, 0x5a + i, 2);
         struct windshear_answer a = windshear_offer_lent(&fresh, s);
         check(same_answer(windshear_offer_lent(&zeroed, s), a) && same_state(&zeroed, &fresh), "from zeroed memory as from the fresh state");
-        check(same_answer(windshear_offer_lent(&padded, s), a) && same_state(&padded, &fresh), "whatever the padding holds");
+        check(fresh.core.place == (399 - i) % 200 && fresh.held[fresh.core.place] == a.shear, "the newest entry stands at the place");
     }
 }
 
@@ -214,7 +289,8 @@ static void writers(void) {
 int main(void) {
     sample_fields();
     state_fields();
-    zeroed_and_padded();
+    host_built();
+    zeroed_memory();
     refused_while_lit();
     three_records();
     headers();

@@ -1,8 +1,14 @@
-/* The header as C++: 01's three records lent, in the plain form and as a run file that is read back, and a float's hundredths. */
+/* The header as C++: 01's three records lent, in the plain form and as a run file that is read back, a ring turned, and a float's hundredths. */
 #include "windshear.h"
+#include <algorithm>
 #include <cstddef>
 #include <cstdint>
 #include <cstdio>
+
+static_assert(sizeof(windshear_sums) == 48 && sizeof(windshear_core) == 72 && sizeof(windshear_state) == 872 && sizeof(windshear_offered) == 888, "sizes");
+static_assert(offsetof(windshear_sums, s100) == 40 && offsetof(windshear_core, along) == 48 && offsetof(windshear_core, place) == 70
+              && offsetof(windshear_state, core) == 800 && offsetof(windshear_offered, state) == 16, "places");
+static_assert(alignof(windshear_state) == 8 && alignof(windshear_offered) == 8, "alignment");
 
 static int checks, wrong;
 
@@ -50,6 +56,22 @@ int main() {
         check(windshear_write_record(records[i], file + start(i), WINDSHEAR_RECORD_SIZE) == WINDSHEAR_ACCEPTED, "the record is written");
     }
     check(windshear_offer_lent(&lent, windshear_sample{}).refusal == WINDSHEAR_REFUSED_AIRSPEED, "a refused sample");
+    windshear_state turned = lent;
+    turned.core.place = 0;
+    std::rotate_copy(lent.held, lent.held + lent.core.place, lent.held + 200, turned.held);
+    check(lent.core.place == 197 && turned.held[0] == 7143 && turned.held[1] == 2098349 && turned.held[2] == 0, "the entries, the newest first");
+    check(same(windshear_offer_lent(&turned, samples[2]), windshear_offer_lent(&lent, samples[2])), "a turned ring answers alike");
+    for (const uint16_t place : {5, 200, 65535}) {
+        windshear_state off = turned;
+        off.core.place = place;
+        check(windshear_offer_lent(&off, samples[2]).refusal == WINDSHEAR_REFUSED_STATE, "a place that is not the ring's");
+    }
+    for (int64_t windshear_sums::*sum : {&windshear_sums::s200, &windshear_sums::s180, &windshear_sums::s160, &windshear_sums::s140, &windshear_sums::s120, &windshear_sums::s100})
+        for (const int off : {-1, 1}) {
+            windshear_state forged = turned;
+            forged.core.sums.*sum += off;
+            check(windshear_offer_lent(&forged, samples[2]).refusal == WINDSHEAR_REFUSED_STATE, "a sum that is not its window's");
+        }
     check(windshear_write_header(WINDSHEAR_MAX_RECORDS + 1, file, WINDSHEAR_HEADER_SIZE) == WINDSHEAR_REFUSED_COUNT, "a header of too many records");
 
     /* the written file, whole */

@@ -25,7 +25,7 @@ pub fn medians<const N: usize>(rounds: usize, mut passes: [&mut dyn FnMut(); N])
 pub fn report(what: &str, library: f64, plain: f64, reference: f64) {
     println!(
         "{what}: library {library:.3} ms, plain {plain:.3} ms, reference {reference:.3} ms; \
-         library / plain {:.1}, library / reference {:.1}",
+         library / plain {:.2}, library / reference {:.2}",
         library / plain,
         library / reference
     );

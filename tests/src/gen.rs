@@ -188,6 +188,19 @@ fn bad_sample(rng: &mut Rng, bad: impl Fn(usize) -> bool) -> Sample {
     Sample::from_fields(fields)
 }
 
+/// The list with refused samples before some of its own.
+pub fn with_refused(rng: &mut Rng, list: Vec<Sample>) -> Vec<Sample> {
+    let mut all = Vec::new();
+    for s in list {
+        while rng.one_in(6) {
+            let which = rng.draw() & rng.draw() & 0x3ff | 1 << (rng.draw() % 10);
+            all.push(bad_sample(rng, |i| which >> i & 1 == 1));
+        }
+        all.push(s);
+    }
+    all
+}
+
 /// Lengths of many short lists and some long ones.
 fn lengths(rng: &mut Rng, short: usize, long: usize) -> Vec<i32> {
     let short = (0..short).map(|_| rng.within(1, 320)).collect::<Vec<_>>();
@@ -207,6 +220,27 @@ fn calm(rng: &mut Rng, out: &mut Lists) {
         });
         out.push((k.to_string(), list));
     }
+}
+
+/// Calm air: winds that wander by small random changes, which light no lamp.
+pub fn calm_air(rng: &mut Rng, n: i32) -> Vec<Sample> {
+    let mut along = 0;
+    series(n, |_, s| {
+        along = i32::clamp(along + rng.within(-20, 20), -20_000, 20_000);
+        s.along = along;
+        s.vertical = rng.within(-150, 150);
+        s.airspeed = rng.within(13_900, 14_100);
+    })
+}
+
+/// Turbulence: strong random changes of both winds and of the airspeed at every sample.
+pub fn turbulence(rng: &mut Rng, n: i32) -> Vec<Sample> {
+    series(n, |_, s| {
+        s.along = rng.within(-1_080, 1_080);
+        s.vertical = rng.within(-2_500, 2_500);
+        s.airspeed = rng.within(12_000, 16_000);
+        s.pitch = rng.within(-3_000, 18_000);
+    })
 }
 
 /// Winds that wander and jump; modes, heights and climbs that last a while.
@@ -289,15 +323,8 @@ fn refused(rng: &mut Rng, out: &mut Lists) {
         }
     }
     for (k, n) in lengths(rng, 250, 6).into_iter().enumerate() {
-        let mut list = Vec::new();
-        for s in gusts(rng, n) {
-            while rng.one_in(6) {
-                let which = rng.draw() & rng.draw() & 0x3ff | 1 << (rng.draw() % 10);
-                list.push(bad_sample(rng, |i| which >> i & 1 == 1));
-            }
-            list.push(s);
-        }
-        out.push((format!("among gusts {k}"), list));
+        let list = gusts(rng, n);
+        out.push((format!("among gusts {k}"), with_refused(rng, list)));
     }
     out.push((
         "all".into(),
@@ -616,4 +643,27 @@ pub fn all_lists() -> Vec<(String, Vec<Sample>)> {
         );
     }
     all
+}
+
+/// The accepted samples of each of `long_lists`: a hundred turns of a ring of two hundred.
+pub const LONG: i32 = 20_000;
+
+/// Makes so many samples.
+type Make = fn(&mut Rng, i32) -> Vec<Sample>;
+
+/// Lists of `LONG` accepted samples, with refused ones among them.
+pub fn long_lists() -> Vec<(String, Vec<Sample>)> {
+    let any: Make = |rng, n| (0..n).map(|_| random_sample(rng)).collect();
+    let makes: [(&str, Make); 4] = [
+        ("calm", calm_air),
+        ("turbulent", turbulence),
+        ("gusty", gusts),
+        ("random", any),
+    ];
+    let mut rng = Rng::new(100);
+    let mut one = |(name, make): (_, Make)| {
+        let list = make(&mut rng, LONG);
+        (format!("long: {name}"), with_refused(&mut rng, list))
+    };
+    makes.into_iter().map(&mut one).collect()
 }

@@ -1,7 +1,7 @@
 //! The library's types from the reference's.
 
-use crate::reference;
-use windshear::{Answer, Core, Outcome, Record, Sample, State};
+use crate::reference::{self, WINDOWS};
+use windshear::{Answer, Core, Outcome, Record, Sample, State, Sums};
 
 /// The sample as the library takes it.
 pub fn sent(s: &reference::Sample) -> Sample {
@@ -38,12 +38,67 @@ pub fn refused(number: impl Into<u16>, place: usize) -> Outcome {
     }
 }
 
-/// The state that the reference's unit stands for, each counter up to where it stops.
+/// The sums in the windows' order.
+pub fn sums([s200, s180, s160, s140, s120, s100]: [i64; 6]) -> Sums {
+    Sums {
+        s200,
+        s180,
+        s160,
+        s140,
+        s120,
+        s100,
+    }
+}
+
+/// And back.
+pub fn in_order(sums: &Sums) -> [i64; 6] {
+    let Sums {
+        s200,
+        s180,
+        s160,
+        s140,
+        s120,
+        s100,
+    } = *sums;
+    [s200, s180, s160, s140, s120, s100]
+}
+
+/// The sum of each window, anew from the entries, the newest first.
+pub fn summed(entries: &[i32]) -> Sums {
+    let sum = |samples| entries[..samples].iter().map(|&entry| i64::from(entry));
+    sums(WINDOWS.map(|(samples, _)| sum(samples).sum()))
+}
+
+/// The entries of a ring, the newest first.
+pub fn entries(state: &State) -> Vec<i32> {
+    let mut entries = state.held.to_vec();
+    entries.rotate_left(state.core.place.into());
+    entries
+}
+
+/// The state with other entries, the newest first, from a place on, each window summed anew; the rest as it was.
+pub fn with_entries(state: &State, place: usize, entries: &[i32]) -> State {
+    let mut held: [i32; 200] = entries.try_into().unwrap();
+    held.rotate_right(place);
+    let core = Core {
+        sums: summed(entries),
+        place: place as u16,
+        ..state.core
+    };
+    State { held, core }
+}
+
+/// The state that the reference's unit stands for, each counter up to where it stops. The newest entry
+/// stands one place further back for each accepted sample.
 pub fn state_of(unit: &reference::Unit) -> State {
     let stop = |n: u64, at: u64| n.min(at) as u16;
+    let place = (200 - unit.accepted() % 200) % 200;
+    let mut held = unit.last_held(200);
+    held.rotate_right(place);
     State {
-        held: unit.last_held(200).try_into().unwrap(),
+        held: held.try_into().unwrap(),
         core: Core {
+            sums: sums(WINDOWS.map(|(samples, _)| unit.window_sum(samples))),
             along: unit.last_along().unwrap_or(0),
             mode: unit.last_mode().unwrap_or(0),
             command: unit.command(),
@@ -52,6 +107,7 @@ pub fn state_of(unit: &reference::Unit) -> State {
             amber: stop(unit.amber_lit_for(), 60),
             voice: stop(unit.voice_since(), 73),
             guidance: unit.guidance_counted().map_or(0, |n| n as u16 + 1),
+            place: place as u16,
         },
     }
 }

@@ -1,24 +1,34 @@
 //! The lent form beside the plain form: the same answers and states over long mixed lists, and a refused sample leaves the lent state's bytes.
 
 use windshear::{Sample, State};
-use windshear_tests::gen::{all_lists, Rng};
-use windshear_tests::library::sent;
+use windshear_tests::forged::forged;
+use windshear_tests::gen::{all_lists, long_lists, Rng, CALM};
+use windshear_tests::library::{expected, in_order, sent};
 
+/// All bytes of a state: it has no padding.
 fn bytes(state: &State) -> Vec<u8> {
-    let fields = |s: &State| {
-        let c = &s.core;
-        let wide = [c.along, c.mode, c.command].map(i32::to_ne_bytes).concat();
-        let narrow = [c.seen, c.red, c.amber, c.voice, c.guidance].map(u16::to_ne_bytes).concat();
-        [s.held.map(i32::to_ne_bytes).concat(), wide, narrow].concat()
-    };
-    fields(state)
+    let c = &state.core;
+    let sums = in_order(&c.sums).map(i64::to_ne_bytes).concat();
+    let wide = [c.along, c.mode, c.command].map(i32::to_ne_bytes).concat();
+    let narrow = [c.seen, c.red, c.amber, c.voice, c.guidance, c.place]
+        .map(u16::to_ne_bytes)
+        .concat();
+    let bytes = [
+        state.held.map(i32::to_ne_bytes).concat(),
+        sums,
+        wide,
+        narrow,
+    ]
+    .concat();
+    assert_eq!(bytes.len(), size_of::<State>());
+    bytes
 }
 
 #[test]
 fn mixed_forms_answer_and_leave_the_same() {
     let mut rng = Rng::new(17);
     let mut compared = 0u64;
-    for (name, list) in all_lists() {
+    for (name, list) in all_lists().into_iter().chain(long_lists()) {
         let (mut plain, mut lent, mut mixed) = (State::fresh(), State::fresh(), State::fresh());
         for (i, s) in list.iter().enumerate() {
             let s = sent(s);
@@ -27,7 +37,16 @@ fn mixed_forms_answer_and_leave_the_same() {
             plain = after;
             assert_eq!(lent.offer_lent(s), want, "{name}: lent answer {i}");
             if want.refusal != 0 {
-                assert_eq!(bytes(&lent), before, "{name}: a refused sample {i} changed the lent state");
+                assert_eq!(
+                    bytes(&lent),
+                    before,
+                    "{name}: a refused sample {i} changed the lent state"
+                );
+                assert_eq!(
+                    bytes(&plain),
+                    before,
+                    "{name}: a refused sample {i} changed the state"
+                );
             }
             let mixed_answer = if rng.one_in(2) {
                 mixed.offer_lent(s)
@@ -44,13 +63,26 @@ fn mixed_forms_answer_and_leave_the_same() {
     println!("compared {compared} answers and states of the lent and the plain form");
 }
 
-/// A state that 8 refuses is left as it was.
+/// A state that 8 refuses is left as it was, byte for byte, in both forms and whatever the sample.
 #[test]
 fn forged_states_are_left_alone() {
-    let mut state = State::fresh();
-    state.core.red = 601;
-    let before = bytes(&state);
-    assert_eq!(state.offer_lent(Sample::default()).refusal, 8);
-    assert_eq!(bytes(&state), before);
-    println!("compared 2 answers and states of a forged state");
+    let mut compared = 0u64;
+    for t in forged().into_iter().filter(|t| !t.passes) {
+        let before = bytes(&t.state);
+        for s in [sent(&CALM), Sample::default()] {
+            let (plain, after) = t.state.offer(s);
+            let mut lent = t.state;
+            assert_eq!(
+                (plain, lent.offer_lent(s)),
+                (expected(&Err(8)), expected(&Err(8))),
+                "{}",
+                t.name
+            );
+            assert_eq!(bytes(&after), before, "{}", t.name);
+            assert_eq!(bytes(&lent), before, "{}: lent", t.name);
+            compared += 4;
+        }
+    }
+    println!("compared {compared} answers and states of forged states");
+    assert!(compared > 30_000);
 }

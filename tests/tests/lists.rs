@@ -1,7 +1,7 @@
 //! The lists are many, and the same ones every time.
 
 use std::collections::HashSet;
-use windshear_tests::gen::all_lists;
+use windshear_tests::gen::{all_lists, long_lists};
 
 #[test]
 fn many_under_their_own_names() {
@@ -17,5 +17,6 @@ fn many_under_their_own_names() {
         lists.len()
     );
     assert_eq!(lists, all_lists());
+    assert_eq!(long_lists(), long_lists());
     println!("compared {} lists and names", lists.len());
 }

@@ -106,11 +106,7 @@ fn windows_met(both: &Both, list: &[Sample], sign: i64) -> Vec<usize> {
         pair.offer(s).unwrap();
     }
     let is_met = |&(samples, value): &(usize, i64)| {
-        let sum = pair.state.held[..samples]
-            .iter()
-            .copied()
-            .map(i64::from)
-            .sum();
+        let sum = pair.state.entries().take(samples).map(i64::from).sum();
         assert_eq!(pair.unit.window_sum(samples), sum);
         sign * sum >= samples as i64 * value
     };

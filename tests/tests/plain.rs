@@ -4,7 +4,7 @@
 use std::collections::BTreeMap;
 use windshear_tests::examples::examples;
 use windshear_tests::files::*;
-use windshear_tests::gen::{all_lists, Rng};
+use windshear_tests::gen::{all_lists, long_lists, Rng};
 use windshear_tests::lend::lend;
 use windshear_tests::library::refused;
 use windshear_tests::plain::{self, Totals};
@@ -108,7 +108,7 @@ fn damaged_files() {
 #[test]
 fn lone_samples() {
     let (mut lists, mut compared) = (0u64, 0u64);
-    for (name, list) in all_lists() {
+    for (name, list) in all_lists().into_iter().chain(long_lists()) {
         let (mut unit, mut want) = (plain::Unit::new(), reference::Unit::new());
         for (i, s) in list.iter().enumerate() {
             let before = unit.clone();

@@ -3,8 +3,9 @@
 use std::collections::{BTreeMap, HashSet};
 use windshear::{Core, Sample, State};
 use windshear_tests::both::Both;
+use windshear_tests::forged::{forged, step, LIMIT};
 use windshear_tests::gen::{self, all_lists};
-use windshear_tests::library::sent;
+use windshear_tests::library::{expected, sent, with_entries};
 
 /// At every sample of every list the answer and the state are the reference's, within the bounds that refusal 8 names; and the
 /// lists reach every event. The events are told by the reference's counters, which do not stop.
@@ -88,81 +89,102 @@ fn calm() -> Sample {
     sent(&gen::CALM)
 }
 
-/// Every rule of refusal 8: an edit of a state, its limits, and one beyond on each side.
-fn forged() -> Vec<(State, bool)> {
-    let mut states = vec![(State::fresh(), true)];
-    let mut put = |edit: &dyn Fn(&mut State, i64), low: Option<i64>, high: i64| {
-        for (value, passes) in low
-            .iter()
-            .flat_map(|&low| [(low, true), (low - 1, false)])
-            .chain([(high, true), (high + 1, false)])
-        {
-            let mut t = State::fresh();
-            edit(&mut t, value);
-            states.push((t, passes));
-        }
-    };
-    for at in [0, 1, 99, 100, 198, 199] {
-        put(&move |t, v| t.held[at] = v as i32, Some(-50_000_000), 50_000_000);
-    }
-    put(&|t, v| t.core.seen = v as u16, None, 600);
-    put(&|t, v| t.core.red = v as u16, None, 600);
-    put(&|t, v| t.core.amber = v as u16, None, 600);
-    put(&|t, v| t.core.voice = v as u16, None, 600);
-    put(&|t, v| t.core.guidance = v as u16, None, 600);
-    put(&|t, v| t.core.command = v as i32, Some(-30_000), 27_000);
-    put(&|t, v| t.core.along = v as i32, Some(-20_000), 20_000);
-    put(&|t, v| t.core.mode = v as i32, Some(0), 1);
-    for extreme in [i32::MIN, i32::MAX] {
-        put_all_extreme(&mut states, extreme);
-    }
-    states
-}
-
-/// The extreme values of each signed field.
-fn put_all_extreme(states: &mut Vec<(State, bool)>, v: i32) {
-    let edits: [fn(&mut State, i32); 4] = [
-        |t, v| t.held = [v; 200],
-        |t, v| t.core.command = v,
-        |t, v| t.core.along = v,
-        |t, v| t.core.mode = v,
-    ];
-    for edit in edits {
-        let mut t = State::fresh();
-        edit(&mut t, v);
-        states.push((t, false));
-    }
-}
-
 #[test]
 fn forged_states_are_refused_by_8_exactly_at_its_limits() {
     let mut compared = 0u64;
-    let bad = Sample { along: 20_001, ..calm() };
-    for (t, passes) in forged() {
-        let (answer, after) = t.offer(calm());
-        assert_eq!(answer.refusal == 8, !passes, "{:?}", t.core);
-        assert_eq!(after == t, !passes);
+    let (mut passed, mut refused) = (0, 0);
+    let bad = Sample {
+        along: 20_001,
+        ..calm()
+    };
+    for t in forged() {
+        if t.passes {
+            passed += 1;
+            let mut state = t.state;
+            step(&mut state, calm());
+        } else {
+            refused += 1;
+            assert_eq!(
+                t.state.offer(calm()),
+                (expected(&Err(8)), t.state),
+                "{}",
+                t.name
+            );
+        }
         // 8 comes before the sample's own numbers
-        assert_eq!(t.offer(bad).0.refusal, if passes { 11 } else { 8 });
-        compared += 3;
+        let number = if t.passes { 11 } else { 8 };
+        assert_eq!(
+            t.state.offer(bad),
+            (expected(&Err(number)), t.state),
+            "{}",
+            t.name
+        );
+        compared += 4;
     }
-    println!("compared {compared} answers of forged states");
+    println!("compared {compared} answers and states of {passed} forged states that pass and {refused} that do not");
+    assert!(passed > 1_000 && refused > 4_000);
+}
+
+/// A place passes exactly where it is on the ring.
+#[test]
+fn every_place() {
+    let mut compared = 0u64;
+    for place in 0..=u16::MAX {
+        let mut t = State::fresh();
+        t.core.place = place;
+        let (answer, after) = t.offer(calm());
+        if place < 200 {
+            assert_eq!((answer.refusal, after.core.place), (0, (place + 199) % 200));
+        } else {
+            assert_eq!((answer, after), (expected(&Err(8)), t), "place {place}");
+        }
+        compared += 2;
+    }
+    println!("compared {compared} answers and states at every place");
 }
 
 /// A state that passes 8, however forged, is answered, and what it leaves passes again.
 #[test]
 fn what_passes_is_answered_and_passes_again() {
     let mut compared = 0u64;
-    for held in [-50_000_000, 50_000_000] {
+    for held in [-LIMIT, LIMIT] {
         for n in [0, 1, 59, 60, 61, 72, 73, 74, 599, 600] {
             for command in [-30_000, 0, 14_990, 15_010, 27_000] {
-                let core = Core { along: -20_000, mode: 1, command, seen: n, red: n, amber: n, voice: n, guidance: n };
-                let mut t = State { held: [held; 200], core };
+                let core = Core {
+                    along: -20_000,
+                    mode: 1,
+                    command,
+                    seen: n,
+                    red: n,
+                    amber: n,
+                    voice: n,
+                    guidance: n,
+                    ..State::fresh().core
+                };
+                let mut t = with_entries(
+                    &State {
+                        core,
+                        ..State::fresh()
+                    },
+                    0,
+                    &[held; 200],
+                );
                 for along in [20_000, -20_000, 20_000] {
-                    let s = Sample { along, vertical: -10_000, airspeed: 6_000, climb: 10_000, ..calm() };
+                    let s = Sample {
+                        along,
+                        vertical: -10_000,
+                        airspeed: 6_000,
+                        climb: 10_000,
+                        ..calm()
+                    };
                     let (answer, after) = t.offer(s);
                     assert_eq!(answer.refusal, 0, "{:?}", t.core);
-                    assert!(after.core.red <= 60 && after.core.amber <= 60 && after.core.voice <= 73 && after.core.guidance <= 600);
+                    assert!(
+                        after.core.red <= 60
+                            && after.core.amber <= 60
+                            && after.core.voice <= 73
+                            && after.core.guidance <= 600
+                    );
                     // red by its condition or its hold, else amber by its condition
                     let red = held > 0 || (1..60).contains(&t.core.red);
                     assert_eq!(answer.alert, if red { 2 } else { 1 }, "{:?}", t.core);

@@ -80,17 +80,46 @@ impl From<[i32; 10]> for Sample {
     }
 }
 
-/// What the unit keeps from sample to sample, beside the held shears. A field outside its range, or a counter above 600, is refused by [`refusal::STATE`].
+/// The running sums: each the sum of the newest so many entries of a [`State`]'s ring. One that is not is refused by [`refusal::STATE`].
+#[repr(C)]
+#[derive(Clone, Copy, Debug, Default, PartialEq, Eq)]
+pub struct Sums {
+    /// of the newest 200, the whole ring
+    pub s200: i64,
+    /// of the newest 180
+    pub s180: i64,
+    /// of the newest 160
+    pub s160: i64,
+    /// of the newest 140
+    pub s140: i64,
+    /// of the newest 120
+    pub s120: i64,
+    /// of the newest 100
+    pub s100: i64,
+}
+
+impl Sums {
+    /// The sums of these entries, the newest first: those missing are 0, and those after the first 200 enter no sum.
+    pub fn of(entries: impl IntoIterator<Item = i32, IntoIter: Clone>) -> Sums {
+        let entries = entries.into_iter().map(i64::from);
+        let newest = |samples| entries.clone().take(samples).sum();
+        Sums { s200: newest(200), s180: newest(180), s160: newest(160), s140: newest(140), s120: newest(120), s100: newest(100) }
+    }
+}
+
+/// What the unit keeps from sample to sample, beside the ring. A field outside its range, or a counter above 600, is refused by [`refusal::STATE`].
 #[repr(C)]
 #[derive(Clone, Copy, Debug, PartialEq, Eq)]
 pub struct Core {
+    /// the sums of the ring's entries
+    pub sums: Sums,
     /// the last accepted sample's along wind, 0.01 kt: -20,000 to 20,000
     pub along: i32,
     /// the last accepted sample's mode: 0 or 1
     pub mode: i32,
     /// the command, 0.001 degree: -30,000 to 27,000; 0 while guidance is off
     pub command: i32,
-    /// counter: 0 while no sample has been accepted
+    /// counter: 0 while no sample has been accepted, else 1
     pub seen: u16,
     /// counter: samples for which red has been lit, up to 60
     pub red: u16,
@@ -100,13 +129,44 @@ pub struct Core {
     pub voice: u16,
     /// counter: 0 is off; else one more than the samples in a row that have counted towards its end
     pub guidance: u16,
+    /// where the newest entry stands in the ring: 0 to 199
+    pub place: u16,
 }
 
-/// The unit's state, which the host keeps: it is returned or lent from sample to sample. A held shear outside its range is refused by [`refusal::STATE`].
+/// The unit's state, which the host keeps: it is returned or lent from sample to sample. An entry outside its range is refused by [`refusal::STATE`].
+///
+/// Its entries are the last two hundred held shears, 0 before the first sample. They are a ring: the newest stands at `core.place`, each older one
+/// a place further on, and after place 199 comes place 0. The next entry is written one place back, over the oldest, and is the newest then: from
+/// the fresh state the first one goes to place 199. States that differ only in how far the ring is turned are not equal, but stand for the same
+/// history: every sample gets the same answer from them.
+///
+/// A host may build a state of its own, from any place on. With `seen` left at 0 the next sample would be taken as the first, with no change of along
+/// wind; with 1, `along` and `mode` are those of the sample that entered the newest:
+///
+/// ```
+/// use windshear::{Sample, State, Sums};
+///
+/// let last = Sample { along: 2_000, vertical: -1_000, airspeed: 14_000, height: 400, stall: 20_000, vs1: 10_000, mode: 1, ..Sample::default() };
+/// let newest_first = [7_143, 2_098_349, 0];
+/// let mut state = State::fresh();
+/// state.core.seen = 1;
+/// state.core.along = last.along;
+/// state.core.mode = last.mode;
+/// state.core.place = 198;
+/// for (i, entry) in newest_first.into_iter().enumerate() {
+///     state.held[(198 + i) % 200] = entry;
+/// }
+/// state.core.sums = Sums::of(newest_first);
+/// let answer = state.offer_lent(Sample { vertical: 0, ..last });
+/// assert_eq!((answer.refusal, answer.alert, answer.shear), (0, 2, 0));
+/// assert_eq!(state.core.place, 197);
+/// assert!(state.entries().take(4).eq([0, 7_143, 2_098_349, 0]));
+/// assert_eq!(state.core.sums, Sums::of(state.entries()));
+/// ```
 #[repr(C)]
 #[derive(Clone, Copy, Debug, PartialEq, Eq)]
 pub struct State {
-    /// the last two hundred held shears, hundred-thousandths, the newest first; 0 before the first sample: -50,000,000 to 50,000,000
+    /// the ring: held shears, hundred-thousandths, -50,000,000 to 50,000,000; [`State::entries`] reads it
     pub held: [i32; 200],
     /// the rest of the state
     pub core: Core,
@@ -128,7 +188,7 @@ pub mod refusal {
     pub const LENGTH: u16 = 6;
     /// lent buffer has the wrong length
     pub const BUFFER: u16 = 7;
-    /// the state is out of range: a held shear, a counter, the command, the last along wind or the last mode
+    /// the state does not pass: a held shear, a counter, the command, the last along wind, the last mode or the place out of range, or a sum that is not its window's
     pub const STATE: u16 = 8;
     /// along wind of a sample or a record out of range, or a float that is not finite
     pub const ALONG: u16 = 11;
@@ -298,6 +358,12 @@ impl State {
         // SAFETY: the function is proved to be defined for every State and every Sample, and to leave a State.
         unsafe { windshear_offer_lent(self, sample) }
     }
+
+    /// The two hundred entries, the newest first. A place off the ring, which is refused by [`refusal::STATE`], is read as its remainder by 200.
+    pub fn entries(&self) -> impl Iterator<Item = i32> + Clone + '_ {
+        let (oldest, newest) = self.held.split_at(usize::from(self.core.place) % self.held.len());
+        newest.iter().chain(oldest).copied()
+    }
 }
 
 impl Default for State {
@@ -390,12 +456,14 @@ pub fn run(file: &[u8], answers: &mut [u8]) -> Outcome {
 
 // The layout that the library has, as include/windshear.h states it too.
 const _: () = {
-    use std::mem::{offset_of, size_of};
+    use std::mem::{align_of, offset_of, size_of};
     assert!(size_of::<Sample>() == 40 && offset_of!(Sample, deselect) == 36);
-    assert!(size_of::<Core>() == 24 && offset_of!(Core, seen) == 12 && offset_of!(Core, guidance) == 20);
-    assert!(size_of::<State>() == 824 && offset_of!(State, core) == 800);
+    assert!(size_of::<Sums>() == 48 && offset_of!(Sums, s180) == 8 && offset_of!(Sums, s100) == 40);
+    assert!(size_of::<Core>() == 72 && offset_of!(Core, along) == 48 && offset_of!(Core, seen) == 60 && offset_of!(Core, place) == 70);
+    assert!(size_of::<State>() == 872 && offset_of!(State, core) == 800);
     assert!(size_of::<Answer>() == 16 && offset_of!(Answer, command) == 8 && offset_of!(Answer, shear) == 12);
-    assert!(size_of::<Offered>() == 840 && offset_of!(Offered, state) == 16);
+    assert!(size_of::<Offered>() == 888 && offset_of!(Offered, state) == 16);
+    assert!(align_of::<State>() == 8 && align_of::<Offered>() == 8);
     assert!(size_of::<Record>() == 24 && offset_of!(Record, height) == 12 && offset_of!(Record, deselect) == 23);
     assert!(size_of::<Outcome>() == 4 && offset_of!(Outcome, place) == 2);
     assert!(size_of::<FileTest>() == 6 && offset_of!(FileTest, count) == 4);

@@ -7,11 +7,11 @@ use Rattle.host.specs.Demand3.{Form, plain, lent, Call, Promised, stateL
 use Rattle.host.specs.Lent.{LentPromise}
 use Rattle.runfile.proofs.RunClaims.{demand-3-run}
 use Rattle.unit.proofs.Claims.{states-pass, answers-by-rules, demand-3-lone}
+use Rattle.unit.proofs.Promises.{plain-says}
 use Rattle.unit.specs.Claims.{stateAfter, answerTo, lastAlert, StatesPass, AnswersByRules, Demand3Lone}
 use Rattle.unit.specs.Rules.{refusal}
 use Rattle.unit.specs.Steps.{offerOf, PlainPromise}
 use Rattle.unit.specs.declared.Answer.{Answer}
-use Rattle.unit.specs.declared.Offered.{Offered}
 use Rattle.unit.specs.declared.Sample.{Sample}
 use Rattle.unit.specs.declared.State.{State}
 
@@ -20,8 +20,8 @@ samples l = map (λ c. c .sample) l
 
 -- what either form promises of its answer and of the state after
 said : (f : Form) (t : State) (s : Sample) (a : Answer) (u : State) → Promised f t s a u → (a ≡ offerOf t s .answer) × (u ≡ offerOf t s .state)
-unfolding Promised PlainPromise LentPromise
-said plain t s a u p = (ap (λ (r : Offered). r .answer) p, ap (λ (r : Offered). r .state) p)
+unfolding Promised LentPromise
+said plain t s a u p = plain-says t s a u p
 said lent t s a u p = p
 
 -- and it can be kept

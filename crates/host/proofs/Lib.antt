@@ -1,2 +1,3 @@
 pub mod Structs
 pub mod Demand3
+pub mod Anew

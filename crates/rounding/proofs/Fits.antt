@@ -54,6 +54,14 @@ sfits w {g} {x} {m} h k =
 pub kept : (w : Width) {g x : ℤ} {m : ℕ} → Holds g x m → m < 2 ^ hbits w → Holds (toZ w (ofZ w g)) x m
 kept w h k = record { is = toZ-ofZ (sfits w h k) ∙ h .is; le = h .le }
 
+-- a parameter or an element of width w, read back: of any size that the width has
+pub read : (w : Width) {x : ℤ} → SFits w x → Holds (toZ w (ofZ w x)) x (2 ^ hbits w)
+read w {x} h = record { is = toZ-ofZ h; le = size x (h .sfits) }
+  where
+    size : (x : ℤ) {k : ℕ} → mag x < k → natAbs x ≤ k
+    size (pos n) l = omega arith
+    size (negsuc n) l = omega arith
+
 pub times : {g x h y : ℤ} {m n : ℕ} → Holds g x m → Holds h y n → Holds (g *ℤ h) (x *ℤ y) (m * n)
 times {g} {x} {h} {y} {m} {n} p q = record { is = cc; le = rw size-mul (mul-le-mul (p .le) (q .le)) }
 

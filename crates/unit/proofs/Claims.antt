@@ -4,33 +4,33 @@ use mathlib.Core.Bool.{Bool, true, false, _&&_, _||_, cond}
 use mathlib.Core.List.{List, [], _∷_, _++_, List·Memᴰ}
 use mathlib.Core.Logic.{_⊎_, ⊎-elim}
 use mathlib.Core.Path.{_≡_, refl, sym, ap, _∙_, subst}
-use Prim.Native.Nat.{ℕ, zero, suc, _+_, _*_, _≤_, _<_, min}
+use Prim.Native.Nat.{ℕ, _+_, _≤_, _<_, min}
 use native.Mathlib.Nat.{mul-pos}
 use native.Mathlib.Omega.{arith}
-use borrow.Author.Tests.{eqb-true, eqb-false, eq-eqb, ne-eqb, ltb-true, ltb-false, le-ltb, lt-ltb}
+use borrow.Author.Tests.{eqb-true, eqb-false, eq-eqb, ne-eqb, lt-ltb}
 use lib.Dec.{T, ltb, eqb, lit<, lit≤}
-use lib.IntN.{ℤ, pos, natAbs, _-ℤ_}
-use lib.ListN.{take, replicate}
+use lib.IntN.{ℤ, pos, natAbs}
 use lib.Signed.{leZ, _≤ℤ_, leZ-yes}
 use Rattle.rounding.specs.Fraction.{AllPositive}
 use Rattle.rounding.proofs.Difference.{any, nat, leD, ofSize}
 use Rattle.rounding.proofs.Fits.{exact, minus, size-ge}
 use Rattle.unit.specs.Choice.{neg, firstOf, within, same, anyOf, every}
-use Rattle.unit.specs.Claims.{stateAfter, answerTo, accepted, StatesPass, LeftPasses, shows, AnswersByRules, RefusedIsNothing, Reaches, Below, PositiveDivisors, lastAlert, Demand3At, Demand3Lone}
+use Rattle.unit.specs.Claims.{stateAfter, answerTo, accepted, StatesPass, LeftPasses, shows, AnswersByRules, RefusedIsNothing, StatesHold, listAfter, listAnswer, SummedAnew, Reaches, Below, PositiveDivisors, lastAlert, Demand3Lone}
 use Rattle.unit.specs.Rules as rules
-use Rattle.unit.specs.Rules.{ranges, inside, refusal, change, exactShear, held, entry, exactEntry, entries, Window, windows, inBand, lastOf, metUp, condition, redCondition, litFor, redFor, redLit, amberFor, amberLit, redComesOn, voiceFor, guidance, Guidance, off, on, isOn, commandOf, guidanceBy}
-use Rattle.unit.specs.Steps.{freshState, shearOf, entryOf, pushed, windowsOf, lampsOf, voiceOf, guideOf, pitchOf, passes, refusedOf, refusalOf, offerOf, acceptOf, guideNext}
+use Rattle.unit.specs.Rules.{ranges, inside, refusal, exactShear, held, entry, exactEntry, entries, Window, windows, inBand, lastOf, windowSum, metUp, condition, redCondition, litFor, redFor, redLit, amberFor, amberLit, voiceFor, guidance, Guidance, off, on, isOn, commandOf, guidanceBy}
+use Rattle.unit.specs.Steps.{freshCore, freshState, readFrom, backOf, sumsOf, shearOf, entryOf, coreWith, windowsOf, lampsOf, voiceOf, guideOf, pitchOf, shownBy, acceptOf, heldFits, countersFit, lastFits, sameSums, ringFits, passes, refusedOf, refusalOf, offerOf}
 use Rattle.unit.specs.declared.Answer.{Answer}
 use Rattle.unit.specs.declared.Offered.{Offered}
 use Rattle.unit.specs.declared.Sample.{Sample}
 use Rattle.unit.specs.declared.State.{State}
 use Rattle.unit.specs.declared.pitch.Guide.{Guide}
 use Rattle.unit.proofs.Averages.{table-positive, table-met, table-unmet}
-use Rattle.unit.proofs.Choices.{cond-has, both-true, passed}
-use Rattle.unit.proofs.Follow.{stateOf, toGuide, countOf, heldOf, lastAlong, lastMode, seenOf, accept-follows, guide-next, not-zero}
+use Rattle.unit.proofs.Choices.{cond-has, passed}
+use Rattle.unit.proofs.Follow.{coreOf, Follows, toGuide, countOf, shear-follows, entry-follows, guide-next, core-next, answered, left, left-follows, accept-follows}
 use Rattle.unit.proofs.HeldShear.{shear-le}
+use Rattle.unit.proofs.Holding.{fresh-holds, accept-holds, fits-holds}
 use Rattle.unit.proofs.PitchLaws.{lamp-le, unless-le, voice-le, count-le, command-ge, command-le, command-cap}
-use Rattle.unit.proofs.RangeLaws.{bounds, inside-bounds, size-le, Fields, in-range-fields, in-range, Passing, passing, passes-of}
+use Rattle.unit.proofs.RangeLaws.{every-set, bounds, inside-bounds, size-le, in-range-fields, in-range, Passing, passing, passes-of}
 
 -- ════ Accepted samples ════
 
@@ -52,7 +52,7 @@ unfolding accepted
 accepted-same [] h = refl
 accepted-same (s ∷ l) h = rw (eq-eqb (refusal s) 0 (h .0)) (ap (λ t. s ∷ t) (accepted-same l (h .1)))
 
--- ════ The state that the rules give passes 8 ════
+-- ════ What an accepted sample leaves passes 8 ════
 
 abbrev fits : ℤ → Bool
 fits x = within (neg 50000000) x (pos 50000000)
@@ -71,102 +71,11 @@ size-fits x h =
     let s = ofSize 1 {k = 50000000} (omega arith) (any x) in
     within-of (leD (any (neg 50000000)) (any x) (omega arith)) (leD (any x) (nat 50000000) (omega arith))
 
-change-le : (s : Sample) (l : List Sample) → AllAccepted (s ∷ l) → natAbs (change s l) ≤ 40000
-unfolding change
-change-le s [] h = lit≤ tt
-change-le s (p ∷ l) h = minus (exact (s .along) (in-range s (h .0) .along-le)) (exact (p .along) (in-range p (h .1 .0) .along-le)) .le
-
-held-le : (s : Sample) (l : List Sample) → AllAccepted (s ∷ l) → natAbs (held s l) ≤ 50000000
-unfolding held
-held-le s l h =
-    let r = in-range s (h .0) in
-    shear-le (change s l) (s .vertical) (s .airspeed) (change-le s l h) (r .vertical-le) (size-ge (s .airspeed) (r .airspeed-ge))
-
-entry-le : (s : Sample) (l : List Sample) → AllAccepted (s ∷ l) → natAbs (entry s l) ≤ 50000000
-unfolding entry
-entry-le s l h = held-le s l h
-
-entries-fit : (l : List Sample) → AllAccepted l → every fits (entries entry l) ≡ true
-unfolding every entries
-entries-fit [] h = refl
-entries-fit (s ∷ l) h = rw (size-fits (entry s l) (entry-le s l h)) (entries-fit l (h .1))
-
-zeros-fit : (e : List ℤ) (n : ℕ) → every fits e ≡ true → every fits (e ++ replicate n (pos 0)) ≡ true
-unfolding every within
-zeros-fit [] zero h = refl
-zeros-fit [] (suc n) h = zeros-fit [] n h
-zeros-fit (x ∷ e) n h = let t = both-true (fits x) (every fits e) h in rw (t .0) (zeros-fit e n (t .1))
-
-take-fit : (n : ℕ) (e : List ℤ) → every fits e ≡ true → every fits (take n e) ≡ true
-unfolding every
-take-fit zero e h = refl
-take-fit (suc n) [] h = refl
-take-fit (suc n) (x ∷ e) h = let t = both-true (fits x) (every fits e) h in rw (t .0) (take-fit n e (t .1))
-
-held-fits : (l : List Sample) → AllAccepted l → every fits (heldOf l) ≡ true
-unfolding lastOf
-held-fits l h = take-fit 200 (entries entry l ++ replicate 200 (pos 0)) (zeros-fit (entries entry l) 200 (entries-fit l h))
-
-record GuideFits (l : List Sample) : Type 0 where
-  count : countOf (guidance l) ≤ 600
-  low : neg 30000 ≤ℤ commandOf (guidance l)
-  high : commandOf (guidance l) ≤ℤ pos 27000
-
-guide-fits : (l : List Sample) → AllAccepted l → GuideFits l
-unfolding ranges guidance guidanceBy commandOf
-guide-fits [] h = record { count = lit≤ tt; low = leZ-yes tt; high = leZ-yes tt }
-guide-fits (s ∷ l) h =
-    let g = guide-fits l (h .1) in
-    let f = in-range-fields s (h .0) in
-    let comes = eqb (min (redFor (s ∷ l)) 60) 1 in
-    let e = guide-next s l in
-    record {
-      count = subst (λ (r : Guide). r .count ≤ 600) e (count-le (toGuide (guidance l)) s comes);
-      low = subst (λ (r : Guide). neg 30000 ≤ℤ r .command) e (command-ge (toGuide (guidance l)) s comes (g .low) (inside-bounds (f .pitch-in) .0) (inside-bounds (f .stall-in) .0));
-      high = subst (λ (r : Guide). r .command ≤ℤ pos 27000) e (command-le (toGuide (guidance l)) s comes);
-    }
-
-along-fits : (l : List Sample) → AllAccepted l → inside (ranges .along) (lastAlong l) ≡ true
-unfolding inside ranges within
-along-fits [] h = refl
-along-fits (s ∷ l) h = in-range-fields s (h .0) .along-in
-
-mode-fits : (l : List Sample) → AllAccepted l → inside (ranges .mode) (lastMode l) ≡ true
-unfolding inside ranges within
-mode-fits [] h = refl
-mode-fits (s ∷ l) h = in-range-fields s (h .0) .mode-in
-
-seen-fits : (l : List Sample) → seenOf l ≤ 600
-seen-fits [] = lit≤ tt
-seen-fits (s ∷ l) = lit≤ tt
-
-min-le : (n k : ℕ) → k ≤ 600 → min n k ≤ 600
-min-le n k h = omega arith
-
-state-passes : (l : List Sample) → AllAccepted l → passes (stateOf l) ≡ true
-unfolding stateOf
-state-passes l h =
-    let g = guide-fits l h in
-    passes-of (stateOf l)
-    (record {
-      held-in = held-fits l h;
-      seen-le = seen-fits l;
-      red-le = min-le (redFor l) 60 (lit≤ tt);
-      amber-le = min-le (amberFor l) 60 (lit≤ tt);
-      voice-le = min-le (voiceFor redComesOn l) 73 (lit≤ tt);
-      guidance-le = g .count;
-      command-in = within-of (g .low) (g .high);
-      along-in = along-fits l h;
-      mode-in = mode-fits l h;
-    })
-
--- ════ What an accepted sample leaves passes 8 ════
-
 at-most : {n k : ℕ} → n ≤ k → k ≤ 600 → n ≤ 600
 at-most h k = omega (arith, h, k)
 
 next-passing : (t : State) (s : Sample) → Passing t → refusal s ≡ 0 → Passing (acceptOf t s .state)
-unfolding ranges acceptOf entryOf windowsOf pushed lampsOf voiceOf pitchOf guideOf shearOf every
+unfolding ranges acceptOf entryOf windowsOf coreWith shownBy lampsOf voiceOf pitchOf guideOf shearOf
 next-passing t s p h =
     let f = in-range-fields s h in
     let r = in-range s h in
@@ -174,9 +83,9 @@ next-passing t s p h =
     let turn =
     cond-has (λ (x : ℤ). natAbs x ≤ 40000) (ltb 0 (t .core .seen)) (λ k. minus (exact (s .along) (r .along-le)) (exact (t .core .along) wind) .le) (λ k. lit≤ tt)
     in
-    let shear = size-fits (shearOf t s) (shear-le _ (s .vertical) (s .airspeed) turn (r .vertical-le) (size-ge (s .airspeed) (r .airspeed-ge))) in
+    let shear = size-fits (shearOf (t .core) s) (shear-le _ (s .vertical) (s .airspeed) turn (r .vertical-le) (size-ge (s .airspeed) (r .airspeed-ge))) in
     record {
-      held-in = rw shear (take-fit 199 (t .held) (p .held-in));
+      held-in = every-set fits (t .held) (backOf (t .core .place)) _ (p .held-in) shear;
       seen-le = lit≤ tt;
       red-le = at-most (lamp-le _ _) (lit≤ tt);
       amber-le = at-most (unless-le _ _) (at-most (lamp-le _ _) (lit≤ tt));
@@ -185,6 +94,7 @@ next-passing t s p h =
       command-in = within-of (command-ge _ s _ (bounds (p .command-in) .0) (inside-bounds (f .pitch-in) .0) (inside-bounds (f .stall-in) .0)) (command-le _ s _);
       along-in = f .along-in;
       mode-in = f .mode-in;
+      ring-fits = fits-holds .fits (acceptOf t s .state) _ (accept-holds t s _ (fits-holds .holds t (p .ring-fits)));
     }
 
 pub left-passes : LeftPasses
@@ -195,60 +105,81 @@ left-passes t s e =
 
 -- ════ The claims on states and answers ════
 
--- what is left by an offer to a state that the rules give
-left : Sample → List Sample → Offered
-left s l = record { answer = shows s l; state = stateOf (s ∷ l) }
+-- a refused sample is handed the state back
+offer-refused : (t : State) (s : Sample) → ¬ (refusalOf t s ≡ 0) → offerOf t s .state ≡ t
+unfolding offerOf
+offer-refused t s h = rw (ne-eqb (refusalOf t s) 0 h)
 
-refused : Sample → List Sample → Offered
-refused s l = record { answer = refusedOf (refusal s); state = stateOf l }
-
-offer-follows : (s : Sample) (l : List Sample) → AllAccepted l → offerOf (stateOf l) s ≡ cond (eqb (refusal s) 0) (left s l) (refused s l)
-unfolding offerOf refusalOf left refused
-offer-follows s l h = rw (state-passes l h, accept-follows s l)
-
-fresh-follows : freshState ≡ stateOf []
-unfolding freshState stateOf lastOf entries redFor litFor amberFor voiceFor guidance guidanceBy commandOf
-fresh-follows = refl
-
-offer-leaves : (s : Sample) (l : List Sample) → AllAccepted l → offerOf (stateOf l) s .state ≡ stateOf (cond (eqb (refusal s) 0) (s ∷ l) l)
-unfolding left refused
-offer-leaves s l h = rw (offer-follows s l h) (go (eqb (refusal s) 0))
+offer-passes : (t : State) (s : Sample) → passes t ≡ true → passes (offerOf t s .state) ≡ true
+unfolding LeftPasses
+offer-passes t s p = go (eqb (refusalOf t s) 0) refl
   where
-    go : (t : Bool) → cond t (left s l) (refused s l) .state ≡ stateOf (cond t (s ∷ l) l)
-    go true = refl
-    go false = refl
+    go : (b : Bool) → eqb (refusalOf t s) 0 ≡ b → passes (offerOf t s .state) ≡ true
+    go true e = left-passes t s (eqb-true (refusalOf t s) 0 e)
+    go false e = rw (offer-refused t s (eqb-false (refusalOf t s) 0 e)) p
 
-state-follows : (l : List Sample) → stateAfter l ≡ stateOf (accepted l)
-unfolding stateAfter accepted
-state-follows [] = fresh-follows
-state-follows (s ∷ l) = ap (λ t. offerOf t s .state) (state-follows l) ∙ offer-leaves s (accepted l) (accepted-all l)
+pub fresh-passes : passes freshState ≡ true
+unfolding passes freshState freshCore heldFits every within countersFit lastFits inside ranges ringFits sameSums same sumsOf windowSum lastOf readFrom
+fresh-passes = refl
 
 pub states-pass : StatesPass
-unfolding StatesPass
-states-pass l = rw (state-follows l) (state-passes (accepted l) (accepted-all l))
+unfolding StatesPass stateAfter
+states-pass [] = fresh-passes
+states-pass (s ∷ l) = offer-passes (stateAfter l) s (states-pass l)
 
-offer-answers : (s : Sample) (l : List Sample) → AllAccepted l → offerOf (stateOf l) s .answer ≡ cond (eqb (refusal s) 0) (shows s l) (refusedOf (refusal s))
-unfolding left refused
-offer-answers s l h = rw (offer-follows s l h) (go (eqb (refusal s) 0))
-  where
-    go : (t : Bool) → cond t (left s l) (refused s l) .answer ≡ cond t (shows s l) (refusedOf (refusal s))
-    go true = refl
-    go false = refl
+fresh-follows : Follows freshState []
+unfolding freshState freshCore coreOf entries redFor litFor amberFor voiceFor guidance guidanceBy commandOf sumsOf windowSum lastOf
+fresh-follows = record { entered = fresh-holds; core = refl }
+
+-- what a state that follows the rules and passes is answered, and what it becomes
+module _ (t : State) (s : Sample) (l : List Sample) (f : Follows t l) (p : passes t ≡ true) where
+  -- where it is accepted, and where it is refused
+  abbrev taken : Offered
+  taken = record { answer = shows s l; state = left s l t f }
+
+  abbrev kept : Offered
+  kept = record { answer = refusedOf (refusal s); state = t }
+
+  offered : offerOf t s ≡ cond (eqb (refusal s) 0) taken kept
+  unfolding offerOf refusalOf
+  offered = rw (p, accept-follows s l t f)
+
+  offer-answers : offerOf t s .answer ≡ cond (eqb (refusal s) 0) (shows s l) (refusedOf (refusal s))
+  offer-answers = ap (λ (r : Offered). r .answer) offered ∙ go (eqb (refusal s) 0)
+    where
+      go : (b : Bool) → cond {A = Offered} b taken kept .answer ≡ cond b (shows s l) (refusedOf (refusal s))
+      go true = refl
+      go false = refl
+
+  offer-follows : Follows (offerOf t s .state) (cond (eqb (refusal s) 0) (s ∷ l) l)
+  offer-follows = rw offered (go (eqb (refusal s) 0))
+    where
+      go : (b : Bool) → Follows (cond {A = Offered} b taken kept .state) (cond b (s ∷ l) l)
+      go true = left-follows s l t f
+      go false = f
+
+state-follows : (l : List Sample) → Follows (stateAfter l) (accepted l)
+unfolding stateAfter accepted StatesPass
+state-follows [] = fresh-follows
+state-follows (s ∷ l) = offer-follows (stateAfter l) s (accepted l) (state-follows l) (states-pass l)
 
 pub answers-by-rules : AnswersByRules
-unfolding AnswersByRules answerTo
-answers-by-rules s before = ap (λ t. offerOf t s .answer) (state-follows before) ∙ offer-answers s (accepted before) (accepted-all before)
+unfolding AnswersByRules answerTo StatesPass
+answers-by-rules s before = offer-answers (stateAfter before) s (accepted before) (state-follows before) (states-pass before)
 
-accepted-skips : (later before : List Sample) (bad : Sample) → ¬ (refusal bad ≡ 0) → accepted (later ++ bad ∷ before) ≡ accepted (later ++ before)
-unfolding accepted
-accepted-skips [] before bad h = rw (ne-eqb (refusal bad) 0 h)
-accepted-skips (s ∷ later) before bad h = rw (accepted-skips later before bad h)
+-- where a number fits the sample, the state is as it was, whether it passes 8 or not
+refused-skips : (t : State) (bad : Sample) → ¬ (refusal bad ≡ 0) → offerOf t bad .state ≡ t
+unfolding refusalOf
+refused-skips t bad h = offer-refused t bad (λ e. h (passed (passes t) 7 (refusal bad) e .1))
+
+state-skips : (later before : List Sample) (bad : Sample) → ¬ (refusal bad ≡ 0) → stateAfter (later ++ bad ∷ before) ≡ stateAfter (later ++ before)
+unfolding stateAfter
+state-skips [] before bad h = refused-skips (stateAfter before) bad h
+state-skips (s ∷ later) before bad h = ap (λ t. offerOf t s .state) (state-skips later before bad h)
 
 pub refused-is-nothing : RefusedIsNothing
 unfolding RefusedIsNothing
-refused-is-nothing before later bad next h =
-    ap (λ t. offerOf t next)
-    (state-follows (later ++ bad ∷ before) ∙ ap stateOf (accepted-skips later before bad h) ∙ sym (state-follows (later ++ before)))
+refused-is-nothing before later bad next h = ap (λ t. offerOf t next) (state-skips later before bad h)
 
 -- ════ Demand 3 ════
 
@@ -370,7 +301,58 @@ pub demand-3-lone : Demand3Lone
 unfolding Demand3Lone
 demand-3-lone before s e = record { positive = positive before s e; lit = lit before s e; dark = dark before s e; capped = capped before s e }
 
+-- ════ A9: a ring with running sums answers as a plain list does ════
+
+pub states-hold : StatesHold
+unfolding StatesHold
+states-hold l = state-follows l .entered
+
+-- the unit without a ring follows the rules too
+fresh-core : freshCore ≡ coreOf 0 []
+unfolding freshCore coreOf entries redFor litFor amberFor voiceFor guidance guidanceBy commandOf sumsOf windowSum lastOf
+fresh-core = refl
+
+list-entered : (l : List Sample) → listAfter l .core ≡ coreOf 0 l → listAfter l .list ≡ entries entry l
+    → (s : Sample) → entryOf (listAfter l .core) s ∷ listAfter l .list ≡ entries entry (s ∷ l)
+unfolding entries
+list-entered l c e s = rw (c, e, entry-follows s l 0)
+
+list-follows : (l : List Sample) → (listAfter l .list ≡ entries entry l) × (listAfter l .core ≡ coreOf 0 l)
+unfolding listAfter entries
+list-follows [] = (refl, fresh-core)
+list-follows (s ∷ l) =
+    let h = list-follows l in
+    let e = list-entered l (h .1) (h .0) s in
+    (e, ap (λ list. shownBy (coreWith (sumsOf list) 0 s (listAfter l .core)) s) e ∙ ap (λ c. shownBy (coreWith (sumsOf (entries entry (s ∷ l))) 0 s c) s) (h .1) ∙ core-next s l 0)
+
+pub list-answers : (s : Sample) (l : List Sample) → listAnswer s l ≡ shows s l
+unfolding listAnswer
+list-answers s l = rw (list-follows (s ∷ l) .1, list-follows l .1, shear-follows s l 0) (answered s l 0)
+
+pub summed-anew : SummedAnew
+unfolding SummedAnew
+summed-anew s before e = answer-is s before e ∙ sym (list-answers s (accepted before))
+
 -- ════ What is shown fits its bytes ════
+
+record GuideFits (l : List Sample) : Type 0 where
+  count : countOf (guidance l) ≤ 600
+  low : neg 30000 ≤ℤ commandOf (guidance l)
+  high : commandOf (guidance l) ≤ℤ pos 27000
+
+guide-fits : (l : List Sample) → AllAccepted l → GuideFits l
+unfolding ranges guidance guidanceBy commandOf
+guide-fits [] h = record { count = lit≤ tt; low = leZ-yes tt; high = leZ-yes tt }
+guide-fits (s ∷ l) h =
+    let g = guide-fits l (h .1) in
+    let f = in-range-fields s (h .0) in
+    let comes = eqb (min (redFor (s ∷ l)) 60) 1 in
+    let e = guide-next s l in
+    record {
+      count = subst (λ (r : Guide). r .count ≤ 600) e (count-le (toGuide (guidance l)) s comes);
+      low = subst (λ (r : Guide). neg 30000 ≤ℤ r .command) e (command-ge (toGuide (guidance l)) s comes (g .low) (inside-bounds (f .pitch-in) .0) (inside-bounds (f .stall-in) .0));
+      high = subst (λ (r : Guide). r .command ≤ℤ pos 27000) e (command-le (toGuide (guidance l)) s comes);
+    }
 
 pub record AnswerFits (a : Answer) : Type 0 where
   pub alert-le : a .alert ≤ 2

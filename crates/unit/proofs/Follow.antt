@@ -1,29 +1,27 @@
--- The state follows the rules: offered one after another, accepted samples leave the state that the rules give, each counter as it is up to
--- where it stops, and the answers are those of the rules.
-use mathlib.Core.Bool.{Bool, true, false, not, _&&_, _||_, cond}
-use mathlib.Core.List.{List, [], _∷_, _++_, append-assoc}
+-- A state follows the rules where it holds the entries and has the core that the rules give, each counter as it is up to where it stops. Accepted
+-- samples, offered one after another, leave such states, and the answers are those of the rules.
+use mathlib.Core.Bool.{Bool, true, false, _&&_, _||_, cond}
+use mathlib.Core.List.{List, [], _∷_}
 use mathlib.Core.Path.{_≡_, refl, sym, ap, _∙_}
-use Prim.Native.Nat.{ℕ, zero, suc, _+_, _*_, _-_, _≤_, _<_, min}
+use Prim.Native.Nat.{ℕ, zero, suc, _+_, _-_, _≤_, _<_, min}
 use native.Mathlib.Omega.{arith}
-use borrow.Author.Tests.{lt-ltb, le-ltb, le-leb, lt-leb, eq-eqb, ne-eqb}
+use borrow.Author.Tests.{lt-ltb, le-ltb, lt-leb, ne-eqb}
 use lib.Dec.{ltb, leb, eqb, lit≤}
-use lib.IntN.{ℤ, pos, negℤ}
-use lib.ListN.{length, take, replicate, length-append, length-replicate, length-take, replicate-append-replicate}
-use lib.Seq.{take-take, take-append-le, length-take-le}
-use lib.Signed.{leZ}
+use lib.IntN.{ℤ, pos}
 use native.Mathlib.Decide.{decLt}
-use Rattle.rounding.specs.Fraction.{sumℤ}
 use Rattle.unit.specs.Choice.{same, smaller, anyOf}
-use Rattle.unit.specs.Claims.{shows}
-use Rattle.unit.specs.Rules.{change, held, entry, entries, row, windows, lastOf, windowSum, metUp, metDown, inBand, condition, redCondition, amberCondition, litFor, redFor, redLit, redComesOn, amberFor, amberLit, modeChange, voiceFor, cycle, voice, counted, cap, towards, Guidance, off, on, guided, guidanceBy, guidance, isOn, commandOf, inside, band}
-use Rattle.unit.specs.Steps.{pushed, sumsOf, sumList, reached, someReached, metOf, shearOf, entryOf, windowsOf, lampNext, unlessLit, lampsOf, changedOf, keptOf, voiceNext, voiceOf, noGuide, startedOf, continuedOf, guideNext, guideOf, pitchOf, alertOf, shownOf, answerOf, acceptOf}
+use Rattle.unit.specs.Claims.{HoldsList, EnterHolds, shows}
+use Rattle.unit.specs.Rules.{change, held, entry, entries, windows, metUp, metDown, inBand, condition, redCondition, amberCondition, litFor, redFor, redLit, redComesOn, amberFor, amberLit, modeChange, voiceFor, cycle, voice, counted, cap, towards, Guidance, off, on, guided, guidanceBy, guidance, isOn, commandOf, inside, band}
+use Rattle.unit.specs.Steps.{beside, sumsOf, sumList, reached, someReached, metOf, shearOf, entryOf, coreWith, windowsOf, lampNext, unlessLit, lampsOf, changedOf, keptOf, voiceNext, voiceOf, noGuide, startedOf, continuedOf, guideNext, guideOf, pitchOf, alertOf, shownOf, answerOf, shownBy, acceptOf}
 use Rattle.unit.specs.declared.Answer.{Answer}
-use Rattle.unit.specs.declared.Offered.{Offered}
+use Rattle.unit.specs.declared.Core.{Core}
 use Rattle.unit.specs.declared.Sample.{Sample}
 use Rattle.unit.specs.declared.State.{State}
 use Rattle.unit.specs.declared.pitch.Guide.{Guide}
+use Rattle.unit.specs.declared.windows.Sums.{Sums}
+use Rattle.unit.proofs.Holding.{enter-holds}
 
--- ════ The state that the rules give ════
+-- ════ The core that the rules give ════
 
 abbrev pub lastAlong : List Sample → ℤ
 lastAlong [] = pos 0
@@ -44,48 +42,31 @@ countOf (on n command) = n + 1
 abbrev pub toGuide : Guidance → Guide
 toGuide g = record { count = countOf g; command = commandOf g }
 
--- a state from what it holds
-abbrev pub made : List ℤ → (along mode : ℤ) (seen red amber voice : ℕ) → Guide → State
-made h along mode seen red amber voice g =
-    record { held = h; core = record { along = along; mode = mode; command = g .command; seen = seen; red = red; amber = amber; voice = voice; guidance = g .count } }
+-- a core from what it holds
+abbrev pub made : Sums → ℕ → (along mode : ℤ) (seen red amber voice : ℕ) → Guide → Core
+made sums place along mode seen red amber voice g =
+    record { sums = sums; along = along; mode = mode; command = g .command; seen = seen; red = red; amber = amber; voice = voice; guidance = g .count; place = place }
 
-abbrev pub heldOf : List Sample → List ℤ
-heldOf l = lastOf 200 (pos 0) (entries entry l)
+-- the core that the rules give, at a place of the ring
+unfoldable pub coreOf : ℕ → List Sample → Core
+coreOf p l =
+    made (sumsOf (entries entry l)) p (lastAlong l) (lastMode l) (seenOf l) (min (redFor l) 60) (min (amberFor l) 60) (min (voiceFor redComesOn l) 73) (toGuide (guidance l))
 
-unfoldable pub stateOf : List Sample → State
-stateOf l =
-    made (heldOf l) (lastAlong l) (lastMode l) (seenOf l) (min (redFor l) 60) (min (amberFor l) 60) (min (voiceFor redComesOn l) 73) (toGuide (guidance l))
+-- a state follows the rules: it holds the entries, and its core is the one that the rules give
+pub record Follows (t : State) (l : List Sample) : Type 0 where
+  pub entered : HoldsList t (entries entry l)
+  pub core : t .core ≡ coreOf (t .core .place) l
 
 -- ════ Windows ════
 
-shear-follows : (s : Sample) (l : List Sample) → shearOf (stateOf l) s ≡ held s l
-unfolding shearOf stateOf held change
-shear-follows s [] = refl
-shear-follows s (last ∷ l) = refl
+pub shear-follows : (s : Sample) (l : List Sample) (p : ℕ) → shearOf (coreOf p l) s ≡ held s l
+unfolding shearOf coreOf held change
+shear-follows s [] p = refl
+shear-follows s (last ∷ l) p = refl
 
-entry-follows : (s : Sample) (l : List Sample) → entryOf (stateOf l) s ≡ entry s l
+pub entry-follows : (s : Sample) (l : List Sample) (p : ℕ) → entryOf (coreOf p l) s ≡ entry s l
 unfolding entryOf entry
-entry-follows s l = shear-follows s l
-
-push-follows : (e : List ℤ) (x : ℤ) → pushed (lastOf 200 (pos 0) e) x ≡ lastOf 200 (pos 0) (x ∷ e)
-unfolding pushed lastOf
-push-follows e x = ap (λ (t : List ℤ). x ∷ t) (take-take 199 200 (e ++ replicate 200 (pos 0)) (lit≤ tt))
-
--- the newest n, whatever number of zeros stands behind them
-take-zeros : (e : List ℤ) (n k : ℕ) → take n (e ++ replicate (n + k) (pos 0)) ≡ take n (e ++ replicate n (pos 0))
-take-zeros e n k =
-    rw (← replicate-append-replicate n k (pos 0), ← append-assoc e (replicate n (pos 0)) (replicate k (pos 0)))
-    (take-append-le n (e ++ replicate n (pos 0)) (replicate k (pos 0)) (rw (length-append, length-replicate) (omega arith)))
-
-window-follows : (e : List ℤ) (n k : ℕ) → n + k ≡ 200 → windowSum n (lastOf 200 (pos 0) e) ≡ windowSum n e
-unfolding windowSum lastOf
-window-follows e n k h =
-    let long : length (take 200 (e ++ replicate 200 (pos 0))) ≡ 200 =
-    length-take-le 200 (e ++ replicate 200 (pos 0)) (rw (length-append, length-replicate) (omega arith)) in
-    ap sumℤ
-    (take-append-le n (take 200 (e ++ replicate 200 (pos 0))) (replicate n (pos 0)) (omega arith)
-    ∙ take-take n 200 (e ++ replicate 200 (pos 0)) (omega arith)
-    ∙ (rw h at (take-zeros e n k)))
+entry-follows s l p = shear-follows s l p
 
 -- ════ Counters ════
 
@@ -214,6 +195,10 @@ alert-follows : (r n : ℕ) → alertOf (min r 60) (min n 60) ≡ cond (ltb 0 r)
 unfolding alertOf
 alert-follows r n = rw (lit-follows r 60 (lit≤ tt), lit-follows n 60 (lit≤ tt))
 
+pub guide-next : (s : Sample) (l : List Sample) → guideNext (toGuide (guidance l)) s (eqb (min (redFor (s ∷ l)) 60) 1) ≡ toGuide (guidance (s ∷ l))
+unfolding guidance guidanceBy redComesOn
+guide-next s l = rw (comes-follows (redFor (s ∷ l))) (guide-follows (guidance l) s (redComesOn (s ∷ l)))
+
 -- answers that differ in nothing
 same-answer : {a b v w g h : ℕ} {command shear : ℤ} → a ≡ b → v ≡ w → g ≡ h
     → _≡_ {A = Answer} (record { refusal = 0; alert = a; voice = v; guidance = g; command = command; shear = shear })
@@ -222,25 +207,26 @@ same-answer p q r = rw (p, q, r)
 
 -- ════ A step ════
 
--- the windows that the state holds are met as those of all the entries
-met-follows : (e : List ℤ) → (metOf true (sumsOf (lastOf 200 (pos 0) e)) ≡ anyOf (metUp e) windows) × (metOf false (sumsOf (lastOf 200 (pos 0) e)) ≡ anyOf (metDown e) windows)
+-- the windows' sums are met as the windows of all the entries
+met-follows : (e : List ℤ) → (metOf true (sumsOf e) ≡ anyOf (metUp e) windows) × (metOf false (sumsOf e) ≡ anyOf (metDown e) windows)
 unfolding metOf someReached reached sumList sumsOf metUp metDown windows anyOf
-met-follows e = (
-  rw (window-follows e 200 0 refl, window-follows e 180 20 refl, window-follows e 160 40 refl, window-follows e 140 60 refl, window-follows e 120 80 refl, window-follows e 100 100 refl),
-  rw (window-follows e 200 0 refl, window-follows e 180 20 refl, window-follows e 160 40 refl, window-follows e 140 60 refl, window-follows e 120 80 refl, window-follows e 100 100 refl),
-)
+met-follows e = (refl, refl)
 
-module _ (s : Sample) (l : List Sample) where
-  entered : windowsOf (stateOf l) s (entry s l)
-      ≡ made (heldOf (s ∷ l)) (s .along) (lastMode l) (seenOf l) (min (redFor l) 60) (min (amberFor l) 60) (min (voiceFor redComesOn l) 73) (toGuide (guidance l))
-  unfolding windowsOf stateOf entries
-  entered = rw (push-follows (entries entry l) (entry s l))
+module _ (s : Sample) (l : List Sample) (p : ℕ) where
+  -- the six sums of the entries, this sample's included
+  abbrev now-sums : Sums
+  now-sums = sumsOf (entries entry (s ∷ l))
 
-  red-holds : (inside band (s .height) && metOf true (sumsOf (heldOf (s ∷ l)))) ≡ redCondition (s ∷ l)
+  filled : coreWith now-sums p s (coreOf p l)
+      ≡ made now-sums p (s .along) (lastMode l) (seenOf l) (min (redFor l) 60) (min (amberFor l) 60) (min (voiceFor redComesOn l) 73) (toGuide (guidance l))
+  unfolding coreWith coreOf
+  filled = refl
+
+  red-holds : (inside band (s .height) && metOf true now-sums) ≡ redCondition (s ∷ l)
   unfolding redCondition condition inBand
   red-holds = rw (met-follows (entries entry (s ∷ l)) .0) refl
 
-  amber-holds : (inside band (s .height) && metOf false (sumsOf (heldOf (s ∷ l)))) ≡ amberCondition (s ∷ l)
+  amber-holds : (inside band (s .height) && metOf false now-sums) ≡ amberCondition (s ∷ l)
   unfolding amberCondition condition inBand
   amber-holds = rw (met-follows (entries entry (s ∷ l)) .1) refl
 
@@ -252,8 +238,8 @@ module _ (s : Sample) (l : List Sample) where
   unfolding amberFor litFor redLit
   amber-next = amber-follows (redFor (s ∷ l)) (amberFor l) (amberCondition (s ∷ l))
 
-  lit : lampsOf (made (heldOf (s ∷ l)) (s .along) (lastMode l) (seenOf l) (min (redFor l) 60) (min (amberFor l) 60) (min (voiceFor redComesOn l) 73) (toGuide (guidance l))) (s .height)
-      ≡ made (heldOf (s ∷ l)) (s .along) (lastMode l) (seenOf l) (min (redFor (s ∷ l)) 60) (min (amberFor (s ∷ l)) 60) (min (voiceFor redComesOn l) 73) (toGuide (guidance l))
+  lit : lampsOf (made now-sums p (s .along) (lastMode l) (seenOf l) (min (redFor l) 60) (min (amberFor l) 60) (min (voiceFor redComesOn l) 73) (toGuide (guidance l))) (s .height)
+      ≡ made now-sums p (s .along) (lastMode l) (seenOf l) (min (redFor (s ∷ l)) 60) (min (amberFor (s ∷ l)) 60) (min (voiceFor redComesOn l) 73) (toGuide (guidance l))
   unfolding lampsOf
   lit = rw (red-holds, amber-holds, red-next, amber-next)
 
@@ -264,26 +250,72 @@ module _ (s : Sample) (l : List Sample) where
       rw (mode-follows s l, kept-follows (voiceFor redComesOn l) (modeChange s l), comes-follows (redFor (s ∷ l)))
       (voice-follows (cond (modeChange s l) 0 (voiceFor redComesOn l)) (redComesOn (s ∷ l)))
 
-  spoken : voiceOf (made (heldOf (s ∷ l)) (s .along) (lastMode l) (seenOf l) (min (redFor (s ∷ l)) 60) (min (amberFor (s ∷ l)) 60) (min (voiceFor redComesOn l) 73) (toGuide (guidance l))) s
-      ≡ made (heldOf (s ∷ l)) (s .along) (s .mode) 1 (min (redFor (s ∷ l)) 60) (min (amberFor (s ∷ l)) 60) (min (voiceFor redComesOn (s ∷ l)) 73) (toGuide (guidance l))
+  spoken : voiceOf (made now-sums p (s .along) (lastMode l) (seenOf l) (min (redFor (s ∷ l)) 60) (min (amberFor (s ∷ l)) 60) (min (voiceFor redComesOn l) 73) (toGuide (guidance l))) s
+      ≡ made now-sums p (s .along) (s .mode) 1 (min (redFor (s ∷ l)) 60) (min (amberFor (s ∷ l)) 60) (min (voiceFor redComesOn (s ∷ l)) 73) (toGuide (guidance l))
   unfolding voiceOf
   spoken = rw voice-next
 
-  pub guide-next : guideNext (toGuide (guidance l)) s (eqb (min (redFor (s ∷ l)) 60) 1) ≡ toGuide (guidance (s ∷ l))
-  unfolding guidance guidanceBy redComesOn
-  guide-next = rw (comes-follows (redFor (s ∷ l))) (guide-follows (guidance l) s (redComesOn (s ∷ l)))
+  pitched : pitchOf (made now-sums p (s .along) (s .mode) 1 (min (redFor (s ∷ l)) 60) (min (amberFor (s ∷ l)) 60) (min (voiceFor redComesOn (s ∷ l)) 73) (toGuide (guidance l))) s
+      ≡ coreOf p (s ∷ l)
+  unfolding pitchOf guideOf coreOf
+  pitched = rw (guide-next s l)
 
-  pitched : pitchOf (made (heldOf (s ∷ l)) (s .along) (s .mode) 1 (min (redFor (s ∷ l)) 60) (min (amberFor (s ∷ l)) 60) (min (voiceFor redComesOn (s ∷ l)) 73) (toGuide (guidance l))) s
-      ≡ stateOf (s ∷ l)
-  unfolding pitchOf guideOf stateOf
-  pitched = rw guide-next
+  -- the core after a sample whose windows are filled
+  pub core-next : shownBy (coreWith now-sums p s (coreOf p l)) s ≡ coreOf p (s ∷ l)
+  unfolding shownBy
+  core-next = rw (filled, lit, spoken, pitched)
 
-  answered : answerOf (stateOf (s ∷ l)) (held s l) ≡ shows s l
-  unfolding answerOf stateOf shows redLit amberLit voice
+  pub answered : answerOf (coreOf p (s ∷ l)) (held s l) ≡ shows s l
+  unfolding answerOf coreOf shows redLit amberLit voice
   answered =
       same-answer {command = commandOf (guidance (s ∷ l))} {shear = held s l} (alert-follows (redFor (s ∷ l)) (amberFor (s ∷ l))) (cycle-follows (voiceFor redComesOn (s ∷ l))) (shown-follows (guidance (s ∷ l)))
 
-  -- an accepted sample's answer, and the state that it leaves
-  pub accept-follows : acceptOf (stateOf l) s ≡ record { answer = shows s l; state = stateOf (s ∷ l) }
-  unfolding acceptOf
-  accept-follows = rw (shear-follows s l, entry-follows s l, entered, lit, spoken, pitched, answered)
+-- an accepted sample's answer, and the state that it leaves
+module _ (s : Sample) (l : List Sample) (t : State) (f : Follows t l) where
+  entry-is : entryOf (t .core) s ≡ entry s l
+  entry-is = ap (λ c. entryOf c s) (f .core) ∙ entry-follows s l (t .core .place)
+
+  shear-is : shearOf (t .core) s ≡ held s l
+  shear-is = ap (λ c. shearOf c s) (f .core) ∙ shear-follows s l (t .core .place)
+
+  -- the state once its windows are filled, and the place of this sample's entry
+  abbrev entered-state : State
+  entered-state = windowsOf t s (entry s l)
+
+  abbrev at : ℕ
+  at = entered-state .core .place
+
+  windows-hold : HoldsList entered-state (entries entry (s ∷ l))
+  unfolding entries EnterHolds
+  windows-hold = enter-holds t (entries entry l) s (entry s l) (f .entered)
+
+  windows-core : entered-state .core ≡ coreWith (entered-state .core .sums) at s (t .core)
+  unfolding windowsOf coreWith
+  windows-core = refl
+
+  -- a core's place and sums do not outlast new ones
+  core-anew : (sums : Sums) (p q : ℕ) → coreWith sums q s (coreOf p l) ≡ coreWith sums q s (coreOf q l)
+  unfolding coreWith coreOf
+  core-anew sums p q = refl
+
+  end : shownBy (entered-state .core) s ≡ coreOf at (s ∷ l)
+  end =
+      ap (λ c. shownBy c s)
+      (windows-core ∙ ap (λ c. coreWith (entered-state .core .sums) at s c) (f .core) ∙ core-anew (entered-state .core .sums) (t .core .place) at
+      ∙ ap (λ sums. coreWith sums at s (coreOf at l)) (windows-hold .sums))
+      ∙ core-next s l at
+
+  pub left : State
+  left = beside (entered-state .held) (coreOf at (s ∷ l))
+
+  pub left-follows : Follows left (s ∷ l)
+  unfolding left coreOf
+  left-follows =
+      record {
+        entered = record { long = windows-hold .long; on-ring = windows-hold .on-ring; ring = windows-hold .ring; sums = refl };
+        core = refl;
+      }
+
+  pub accept-follows : acceptOf t s ≡ record { answer = shows s l; state = left }
+  unfolding acceptOf left
+  accept-follows = rw (entry-is, shear-is, end, answered s l at)

@@ -4,9 +4,13 @@ pub mod RangeLaws
 pub mod Promises
 pub mod WindowLaws
 pub mod HeldShear
+pub mod RingLaws
+pub mod Holding
 pub mod ValidLaws
+pub mod StepLaws
 pub mod PitchLaws
 pub mod Follow
 pub mod Averages
 pub mod Claims
+pub mod Turned
 pub mod Figures

@@ -1,6 +1,7 @@
--- The promise of the plain form and the equation on the pair that `offer` hands back: each gives the other.
-use mathlib.Core.Path.{_≡_}
+-- What the promise of the plain form says: of the pair that `offer` hands back, and of an answer and a state apart.
+use mathlib.Core.Path.{_≡_, ap}
 use Rattle.unit.specs.Steps.{offerOf, PlainPromise}
+use Rattle.unit.specs.declared.Answer.{Answer}
 use Rattle.unit.specs.declared.Offered.{Offered}
 use Rattle.unit.specs.declared.Sample.{Sample}
 use Rattle.unit.specs.declared.State.{State}
@@ -9,6 +10,6 @@ pub plain-offered : (t : State) (s : Sample) (r : Offered) → PlainPromise t s 
 unfolding PlainPromise
 plain-offered t s r e = e
 
-pub offered-plain : (t : State) (s : Sample) (r : Offered) → r ≡ offerOf t s → PlainPromise t s (r .answer) (r .state)
+pub plain-says : (t : State) (s : Sample) (a : Answer) (u : State) → PlainPromise t s a u → (a ≡ offerOf t s .answer) × (u ≡ offerOf t s .state)
 unfolding PlainPromise
-offered-plain t s r e = e
+plain-says t s a u e = (ap (λ (r : Offered). r .answer) e, ap (λ (r : Offered). r .state) e)

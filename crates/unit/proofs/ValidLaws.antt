@@ -1,33 +1,56 @@
--- What the arithmetic leans on (`Valid`) stays true from method to method.
-use Prim.Native.Nat.{ℕ, zero, suc, _≤_, zero-le}
-use mathlib.Core.List.{List, [], _∷_}
+-- A state that passes is what the arithmetic leans on (`Valid`): each sum is its window's, of entries that 8 holds to 50,000,000.
+use mathlib.Core.Bool.{true}
+use mathlib.Core.List.{List}
+use mathlib.Core.Path.{_≡_, refl, _∙_}
+use Prim.Native.Nat.{ℕ, _*_, _≤_}
+use native.Mathlib.Omega.{arith}
+use lib.Dec.{lit≤}
 use lib.IntN.{ℤ, pos, natAbs}
-use lib.ListN.{getD, take}
-use Rattle.unit.specs.Steps.{pushed, HeldWithin, Valid, windowsOf, lampsOf, voiceOf}
-use Rattle.unit.specs.declared.Sample.{Sample}
+use lib.ListN.{length}
+use Rattle.unit.specs.Choice.{neg, within, every}
+use Rattle.unit.specs.Rules.{ranges, windowSum}
+use Rattle.unit.specs.Steps.{readFrom, sumsOf, guideOf, passes, SumsWithin, Valid}
 use Rattle.unit.specs.declared.State.{State}
+use Rattle.unit.proofs.Holding.{fits-holds}
+use Rattle.unit.proofs.RangeLaws.{every-at, every-turn, bounds, inside-bounds, size-le, passing}
+use Rattle.unit.proofs.RingLaws.{read-length}
+use Rattle.unit.proofs.WindowLaws.{sum-le, window-sum-take}
 
-take-within : (n : ℕ) (l : List ℤ) → HeldWithin l → HeldWithin (take n l)
-unfolding HeldWithin
-take-within zero l h k = zero-le
-take-within (suc n) [] h k = zero-le
-take-within (suc n) (x ∷ l) h zero = h 0
-take-within (suc n) (x ∷ l) h (suc k) = take-within n l (λ j. h (suc j)) k
+-- what stands past the end
+zero-in : within (neg 50000000) (pos 0) (pos 50000000) ≡ true
+unfolding within
+zero-in = refl
 
-pushed-within : (l : List ℤ) (x : ℤ) → HeldWithin l → natAbs x ≤ 50000000 → HeldWithin (pushed l x)
-unfolding HeldWithin pushed
-pushed-within l x h b zero = b
-pushed-within l x h b (suc k) = take-within 199 l h k
+module _ (e : List ℤ) (long : length e ≡ 200) (fits : every (λ x. within (neg 50000000) x (pos 50000000)) e ≡ true) where
+  window-within : (n : ℕ) → n ≤ 200 → natAbs (windowSum n e) ≤ 10000000000
+  window-within n h =
+      rw (window-sum-take n e (omega arith))
+      (least n h (sum-le 50000000 e n (λ k. size-le 50000000 (bounds (every-at _ e (pos 0) fits zero-in k)) tt tt)))
+    where
+      least : (n : ℕ) → n ≤ 200 → {a : ℕ} → a ≤ n * 50000000 → a ≤ 10000000000
+      least n h k = omega arith
 
-pub valid-windows : {t : State} (s : Sample) (x : ℤ) → Valid t → natAbs (s .along) ≤ 20000 → natAbs x ≤ 50000000 → Valid (windowsOf t s x)
-unfolding windowsOf
-valid-windows {t} s x v a b =
-    record { held-le = pushed-within (t .held) x (v .held-le) b; along-le = a; command-le = v .command-le; guidance-le = v .guidance-le }
+  sums-within : SumsWithin (sumsOf e)
+  unfolding sumsOf
+  sums-within =
+      record {
+        s200 = window-within 200 (lit≤ tt);
+        s180 = window-within 180 (lit≤ tt);
+        s160 = window-within 160 (lit≤ tt);
+        s140 = window-within 140 (lit≤ tt);
+        s120 = window-within 120 (lit≤ tt);
+        s100 = window-within 100 (lit≤ tt);
+      }
 
-pub valid-lamps : {t : State} (height : ℤ) → Valid t → Valid (lampsOf t height)
-unfolding lampsOf
-valid-lamps height v = record { held-le = v .held-le; along-le = v .along-le; command-le = v .command-le; guidance-le = v .guidance-le }
-
-pub valid-voice : {t : State} (s : Sample) → Valid t → Valid (voiceOf t s)
-unfolding voiceOf
-valid-voice s v = record { held-le = v .held-le; along-le = v .along-le; command-le = v .command-le; guidance-le = v .guidance-le }
+pub valid : (t : State) → passes t ≡ true → Valid t
+unfolding ranges guideOf readFrom
+valid t e =
+    let p = passing t e in
+    let h = fits-holds .holds t (p .ring-fits) in
+    let place = t .core .place in
+    let all = every-turn _ place (t .held) ∙ p .held-in in
+    record {
+      ring = record { long = h .long; on-ring = h .on-ring; sums-le = rw (h .sums) (sums-within (readFrom place (t .held)) (read-length (t .held) place (h .long) (h .on-ring)) all) };
+      along-le = size-le 20000 (inside-bounds (p .along-in)) tt tt;
+      guide = record { count-le = p .guidance-le; command-le = size-le 30000 (bounds (p .command-in)) tt tt };
+    }

@@ -1,30 +1,22 @@
--- Laws of the windows: a push an element at a time, a sum an element at a time, and a limit that is reached upward or downward.
+-- Laws of the windows: a sum an element at a time, six sums as they are read back, and a limit that is reached upward or downward.
 use mathlib.Core.Path.{_≡_, refl, sym, ap, _∙_}
 use mathlib.Core.Bool.{Bool, true, false}
 use mathlib.Core.List.{List, [], _∷_, _++_}
-use Prim.Native.Nat.{ℕ, zero, suc, _+_, _-_, _*_, _≤_, _<_}
-use native.Mathlib.Nat.{not-suc-le-zero}
+use Prim.Native.Nat.{ℕ, zero, suc, _+_, _*_, _≤_, _<_}
 use native.Mathlib.Numerals.{add-one}
 use native.Mathlib.Omega.{arith}
 use lib.Dec.{T}
 use lib.IntN.{ℤ, pos, negℤ, natAbs, _+ℤ_, _-ℤ_, +ℤ-idl, +ℤ-idr, +ℤ-assoc}
-use lib.ListN.{length, take, set, getD, replicate}
-use lib.Seq.{take-suc, take-suc-set, take-append-le}
+use lib.ListN.{length, take, getD, replicate}
+use lib.Seq.{take-suc, take-append-le}
 use lib.Signed.{leZ, leZ-yes}
+use mir.Syntax.{w64}
+use mir.Val.{SFits}
 use Rattle.rounding.specs.Fraction.{sumℤ}
 use Rattle.rounding.proofs.Difference.{any, nat, negD, -D, leD, ofLe}
 use Rattle.rounding.proofs.Fits.{size-add}
 use Rattle.unit.specs.Rules.{lastOf, windowSum}
-
--- where the newest i are x and the newest i - 1 of l, and v, the next of l, is set at i, one more is
-pub push-more : (x : ℤ) (l n : List ℤ) (i : ℕ) {v : ℤ} → 0 < i → i < length l → i < length n → take i n ≡ x ∷ take (i - 1) l
-    → v ≡ getD l (i - 1) (pos 0) → take (i + 1) (set n i v) ≡ x ∷ take (i + 1 - 1) l
-push-more x l n zero p h k e f = absurd (not-suc-le-zero p)
-push-more x l n (suc j) {v} p h k e f =
-    let a : suc j - 1 ≡ j = omega arith in
-    let b : suc j + 1 - 1 ≡ suc j = omega arith in
-    let hj : j < length l = omega arith in
-    rw (b, add-one, take-suc-set n (suc j) v k, e, f, a, take-suc l j (pos 0) hj)
+use Rattle.unit.specs.declared.windows.Sums.{Sums}
 
 -- one element more of a sum
 sum-snoc : (l : List ℤ) (x : ℤ) → sumℤ (l ++ (x ∷ [])) ≡ sumℤ l +ℤ x
@@ -44,6 +36,15 @@ sum-le k (x ∷ l) (suc n) h = omega (arith, size-add x (sumℤ (take n l)), h 0
 pub window-sum-take : (n : ℕ) (l : List ℤ) → n ≤ length l → windowSum n l ≡ sumℤ (take n l)
 unfolding windowSum lastOf
 window-sum-take n l h = rw (take-append-le n l (replicate n (pos 0)) h)
+
+-- six sums of 64 bits, each of which is read back as it is
+pub record SumsFit (s : Sums) : Type 0 where
+  pub s200 : SFits w64 (s .s200)
+  pub s180 : SFits w64 (s .s180)
+  pub s160 : SFits w64 (s .s160)
+  pub s140 : SFits w64 (s .s140)
+  pub s120 : SFits w64 (s .s120)
+  pub s100 : SFits w64 (s .s100)
 
 -- two tests of which each follows from the other
 same-test : (a b : Bool) → (T a → T b) → (T b → T a) → a ≡ b

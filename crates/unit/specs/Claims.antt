@@ -1,18 +1,19 @@
--- The claims over every list of samples offered in the plain form, each a definition that is proved in proofs/Claims.antt.
--- A list has the newest sample first. 01: "The list in demand 3" and the last lines of "Refusal numbers".
+-- The claims on states, and over every list of samples offered in the plain form, each a definition that is proved in proofs/Claims.antt, or for
+-- A9 in proofs/Holding.antt and proofs/Turned.antt. A list has the newest sample first. 01: "The list in demand 3" and the last lines of "Refusal numbers".
 use mathlib.Core.Bool.{Bool, true, false, cond}
 use mathlib.Core.List.{List, [], _∷_, _++_, List·Memᴰ}
 use mathlib.Core.Logic.{_⊎_}
 use mathlib.Core.Path.{_≡_}
-use Prim.Native.Nat.{ℕ}
+use Prim.Native.Nat.{ℕ, _<_}
 use lib.Dec.{eqb}
 use lib.IntN.{ℤ, pos}
+use lib.ListN.{length}
 use lib.Signed.{_≤ℤ_}
 use Rattle.rounding.specs.Fraction.{Fraction, _over_, _+F_, _≤F_, _<F_, AllPositive}
-use Rattle.unit.specs.Rules.{refusal, held, exactEntry, entries, Window, windows, inBand, average, redLit, amberLit, voice, guidance, isOn, commandOf}
-use Rattle.unit.specs.Steps.{freshState, passes, refusedOf, refusalOf, offerOf}
+use Rattle.unit.specs.Rules.{refusal, held, entry, exactEntry, entries, Window, windows, inBand, lastOf, average, redLit, amberLit, voice, guidance, isOn, commandOf}
+use Rattle.unit.specs.Steps.{freshCore, freshState, readFrom, sumsOf, shearOf, entryOf, coreWith, windowsOf, shownBy, answerOf, ringFits, passes, refusedOf, refusalOf, offerOf}
 use Rattle.unit.specs.declared.Answer.{Answer}
-use Rattle.unit.specs.declared.Offered.{Offered}
+use Rattle.unit.specs.declared.Core.{Core}
 use Rattle.unit.specs.declared.Sample.{Sample}
 use Rattle.unit.specs.declared.State.{State}
 
@@ -62,6 +63,67 @@ unfoldable pub RefusedIsNothing : Type 0
 RefusedIsNothing =
     (before later : List Sample) (bad next : Sample) → ¬ (refusal bad ≡ 0)
     → offerOf (stateAfter (later ++ bad ∷ before)) next ≡ offerOf (stateAfter (later ++ before)) next
+
+-- ════ A9: a ring with running sums answers as a plain list does ════
+
+-- a state holds a list of entries, the newest first: its ring read from its place is the list's last two hundred, and its sums are the windows'
+-- sums of the list
+pub record HoldsList (t : State) (entries : List ℤ) : Type 0 where
+  pub long : length (t .held) ≡ 200
+  pub on-ring : t .core .place < 200
+  pub ring : readFrom (t .core .place) (t .held) ≡ lastOf 200 (pos 0) entries
+  pub sums : t .core .sums ≡ sumsOf entries
+
+-- an entry that comes in is held, on top of the list that the state held before it
+unfoldable pub EnterHolds : Type 0
+EnterHolds = (t : State) (l : List ℤ) (s : Sample) (entry : ℤ) → HoldsList t l → HoldsList (windowsOf t s entry) (entry ∷ l)
+
+-- refusal 8 passes the ring of a state exactly where it holds a list: that of its ring, read from its place
+pub record FitsHolds : Type 0 where
+  pub holds : (t : State) → ringFits t ≡ true → HoldsList t (readFrom (t .core .place) (t .held))
+  pub fits : (t : State) (l : List ℤ) → HoldsList t l → ringFits t ≡ true
+
+-- what samples leave, offered from a fresh start, holds what the accepted ones entered
+unfoldable pub StatesHold : Type 0
+StatesHold = (l : List Sample) → HoldsList (stateAfter l) (entries entry (accepted l))
+
+-- The unit without a ring keeps "a plain list of the entries", the newest first. At each sample its core gets the windows' sums anew from that
+-- list; all else is as it is with a ring.
+pub record ListUnit : Type 0 where
+  pub list : List ℤ
+  pub core : Core
+
+-- one that has been offered these samples, the newest first, all of them accepted
+unfoldable pub listAfter : List Sample → ListUnit
+listAfter [] = record { list = []; core = freshCore }
+listAfter (s ∷ before) =
+    let u = listAfter before in
+    let list = entryOf (u .core) s ∷ u .list in
+    record { list = list; core = shownBy (coreWith (sumsOf list) 0 s (u .core)) s }
+
+unfoldable pub listAnswer : Sample → List Sample → Answer
+listAnswer s before = answerOf (listAfter (s ∷ before) .core) (shearOf (listAfter before .core) s)
+
+-- "every answer equals that of windows summed anew from a plain list of the entries, for any accepted samples from a fresh start" (02, A9), in the
+-- plain form; host's Anew.antt has it for every history of calls and for runs
+unfoldable pub SummedAnew : Type 0
+SummedAnew = (s : Sample) (before : List Sample) → refusal s ≡ 0 → answerTo s before ≡ listAnswer s (accepted before)
+
+-- a core as it is but for its place
+unfoldable pub placed : ℕ → Core → Core
+placed place c =
+    record { sums = c .sums; along = c .along; mode = c .mode; command = c .command; seen = c .seen; red = c .red; amber = c .amber; voice = c .voice; guidance = c .guidance; place = place }
+
+-- two states that differ only in how far the ring is turned
+pub record Turned (t u : State) : Type 0 where
+  pub long : (length (t .held) ≡ 200) × (length (u .held) ≡ 200)
+  pub on-ring : (t .core .place < 200) × (u .core .place < 200)
+  pub ring : readFrom (t .core .place) (t .held) ≡ readFrom (u .core .place) (u .held)
+  pub core : t .core ≡ placed (t .core .place) (u .core)
+
+-- every sample gets the same answer from both, and leaves two that differ only so
+unfoldable pub TurnedAlike : Type 0
+TurnedAlike = (t u : State) (s : Sample) → Turned t u → (offerOf t s .answer ≡ offerOf u s .answer) × Turned (offerOf t s .state) (offerOf u s .state)
 
 -- ════ Demand 3, for lone samples in the plain form ════
 

@@ -1,12 +1,12 @@
 -- What one method does to one state: what the clauses of src/ cite. The counters stop where they no longer matter; that this is harmless is
 -- shown by the claims, which say the answers by the rules alone.
 use mathlib.Core.Bool.{Bool, true, false, not, _&&_, _||_, cond}
-use mathlib.Core.List.{List, [], _∷_}
+use mathlib.Core.List.{List, [], _∷_, _++_}
 use mathlib.Core.Path.{_≡_}
-use Prim.Native.Nat.{ℕ, _+_, _-_, _≤_}
+use Prim.Native.Nat.{ℕ, _+_, _-_, _≤_, _<_}
 use lib.Dec.{ltb, leb, eqb}
-use lib.IntN.{ℤ, pos, negℤ, natAbs, _-ℤ_}
-use lib.ListN.{getD, take, replicate}
+use lib.IntN.{ℤ, pos, negℤ, natAbs, _+ℤ_, _-ℤ_}
+use lib.ListN.{length, getD, set, take, drop, replicate}
 use lib.Signed.{leZ, _≤ℤ_}
 use Rattle.unit.specs.Choice.{neg, firstOf, within, same, smaller, every}
 use Rattle.unit.specs.Rules.{ranges, inside, refusal, band, heldShear, Window, windows, windowSum, limit, cycle, cap, towards, counted}
@@ -18,29 +18,67 @@ use Rattle.unit.specs.declared.State.{State}
 use Rattle.unit.specs.declared.pitch.Guide.{Guide}
 use Rattle.unit.specs.declared.windows.Sums.{Sums}
 
+-- a state of a ring's entries and the core beside them
+abbrev pub beside : List ℤ → Core → State
+beside held core = record { held = held; core = core }
+
 -- "no sample: windows zero, lamps dark, no voice, guidance off" (01, "The list in demand 3")
-unfoldable pub freshState : State
-freshState =
+unfoldable pub freshCore : Core
+freshCore =
     record {
-      held = replicate 200 (pos 0);
-      core = record { along = pos 0; mode = pos 0; command = pos 0; seen = 0; red = 0; amber = 0; voice = 0; guidance = 0 };
+      sums = record { s200 = pos 0; s180 = pos 0; s160 = pos 0; s140 = pos 0; s120 = pos 0; s100 = pos 0 };
+      along = pos 0;
+      mode = pos 0;
+      command = pos 0;
+      seen = 0;
+      red = 0;
+      amber = 0;
+      voice = 0;
+      guidance = 0;
+      place = 0;
     }
 
--- ════ Windows ════
+unfoldable pub freshState : State
+freshState = beside (replicate 200 (pos 0)) freshCore
 
--- the newest first, and the oldest dropped
-unfoldable pub pushed : List ℤ → ℤ → List ℤ
-pushed held x = x ∷ take 199 held
+-- ════ Windows: "keep the history as a ring with a place, and a running sum per window" (02, A9) ════
 
-unfoldable pub sumsOf : List ℤ → Sums
-sumsOf held =
+-- a ring read from a place on, round: the newest entry first
+unfoldable pub readFrom : ℕ → List ℤ → List ℤ
+readFrom place held = drop place held ++ take place held
+
+-- one place back, round, which is where the next entry goes; and n places on, round
+unfoldable pub backOf : ℕ → ℕ
+backOf place = cond (eqb place 0) 199 (place - 1)
+
+unfoldable pub onOf : ℕ → ℕ → ℕ
+onOf place n = cond (ltb (place + n) 200) (place + n) (place + n - 200)
+
+-- the running sum of a window of n as x enters in front of the entries: it gains x, and loses the entry that was its oldest
+unfoldable pub movedOf : ℕ → List ℤ → ℤ → ℤ → ℤ
+movedOf n entries x sum = (sum +ℤ x) -ℤ getD entries (n - 1) (pos 0)
+
+unfoldable pub movedSums : List ℤ → ℤ → Sums → Sums
+movedSums entries x s =
     record {
-      s200 = windowSum 200 held;
-      s180 = windowSum 180 held;
-      s160 = windowSum 160 held;
-      s140 = windowSum 140 held;
-      s120 = windowSum 120 held;
-      s100 = windowSum 100 held;
+      s200 = movedOf 200 entries x (s .s200);
+      s180 = movedOf 180 entries x (s .s180);
+      s160 = movedOf 160 entries x (s .s160);
+      s140 = movedOf 140 entries x (s .s140);
+      s120 = movedOf 120 entries x (s .s120);
+      s100 = movedOf 100 entries x (s .s100);
+    }
+
+-- every window summed anew from a list of entries, the newest first
+unfoldable pub sumsOf : List ℤ → Sums
+sumsOf entries =
+    record {
+      s200 = windowSum 200 entries;
+      s180 = windowSum 180 entries;
+      s160 = windowSum 160 entries;
+      s140 = windowSum 140 entries;
+      s120 = windowSum 120 entries;
+      s100 = windowSum 100 entries;
     }
 
 -- the six sums in the order of the windows' table
@@ -60,20 +98,23 @@ someReached up (w ∷ table) (sum ∷ sums) = reached up w sum || someReached up
 unfoldable pub metOf : Bool → Sums → Bool
 metOf up s = someReached up windows (sumList s)
 
-unfoldable pub shearOf : State → Sample → ℤ
-shearOf t s = heldShear (cond (ltb 0 (t .core .seen)) (s .along -ℤ t .core .along) (pos 0)) (s .vertical) (s .airspeed)
+unfoldable pub shearOf : Core → Sample → ℤ
+shearOf c s = heldShear (cond (ltb 0 (c .seen)) (s .along -ℤ c .along) (pos 0)) (s .vertical) (s .airspeed)
 
 -- what the sample enters into the windows: its held shear
-unfoldable pub entryOf : State → Sample → ℤ
-entryOf t s = shearOf t s
+unfoldable pub entryOf : Core → Sample → ℤ
+entryOf c s = shearOf c s
 
+-- the core with new sums, a new place and the sample's along wind
+unfoldable pub coreWith : Sums → ℕ → Sample → Core → Core
+coreWith sums place s c =
+    record { sums = sums; along = s .along; mode = c .mode; command = c .command; seen = c .seen; red = c .red; amber = c .amber; voice = c .voice; guidance = c .guidance; place = place }
+
+-- the entry stored one place back, and every sum moved
 unfoldable pub windowsOf : State → Sample → ℤ → State
 windowsOf t s entry =
     let c = t .core in
-    record {
-      held = pushed (t .held) entry;
-      core = record { along = s .along; mode = c .mode; command = c .command; seen = c .seen; red = c .red; amber = c .amber; voice = c .voice; guidance = c .guidance };
-    }
+    beside (set (t .held) (backOf (c .place)) entry) (coreWith (movedSums (readFrom (c .place) (t .held)) entry (c .sums)) (backOf (c .place)) s c)
 
 -- ════ Lamps ════
 
@@ -84,14 +125,21 @@ lampNext n on = cond (eqb n 0) (cond on 1 0) (cond (ltb n 60) (n + 1) (cond on 6
 unfoldable pub unlessLit : ℕ → ℕ → ℕ
 unlessLit red amber = cond (ltb 0 red) 0 amber
 
-unfoldable pub lampsOf : State → ℤ → State
-lampsOf t height =
-    let c = t .core in
-    let red = lampNext (c .red) (inside band height && metOf true (sumsOf (t .held))) in
-    let amber = lampNext (c .amber) (inside band height && metOf false (sumsOf (t .held))) in
+unfoldable pub lampsOf : Core → ℤ → Core
+lampsOf c height =
+    let red = lampNext (c .red) (inside band height && metOf true (c .sums)) in
+    let amber = lampNext (c .amber) (inside band height && metOf false (c .sums)) in
     record {
-      held = t .held;
-      core = record { along = c .along; mode = c .mode; command = c .command; seen = c .seen; red = red; amber = unlessLit red amber; voice = c .voice; guidance = c .guidance };
+      sums = c .sums;
+      along = c .along;
+      mode = c .mode;
+      command = c .command;
+      seen = c .seen;
+      red = red;
+      amber = unlessLit red amber;
+      voice = c .voice;
+      guidance = c .guidance;
+      place = c .place;
     }
 
 -- ════ Voice ════
@@ -107,13 +155,20 @@ unfoldable pub voiceNext : ℕ → Bool → ℕ
 voiceNext n comes = cond (eqb n 0) (cond comes 1 0) (cond (ltb n 73) (n + 1) 73)
 
 -- a lamp that comes on has its counter at 1
-unfoldable pub voiceOf : State → Sample → State
-voiceOf t s =
-    let c = t .core in
+unfoldable pub voiceOf : Core → Sample → Core
+voiceOf c s =
     let voice = voiceNext (keptOf (c .voice) (changedOf (c .seen) (c .mode) (s .mode))) (eqb (c .red) 1) in
     record {
-      held = t .held;
-      core = record { along = c .along; mode = s .mode; command = c .command; seen = 1; red = c .red; amber = c .amber; voice = voice; guidance = c .guidance };
+      sums = c .sums;
+      along = c .along;
+      mode = s .mode;
+      command = c .command;
+      seen = 1;
+      red = c .red;
+      amber = c .amber;
+      voice = voice;
+      guidance = c .guidance;
+      place = c .place;
     }
 
 -- ════ Escape pitch ════
@@ -137,13 +192,20 @@ guideNext g s comes =
 unfoldable pub guideOf : Core → Guide
 guideOf c = record { count = c .guidance; command = c .command }
 
-unfoldable pub pitchOf : State → Sample → State
-pitchOf t s =
-    let c = t .core in
+unfoldable pub pitchOf : Core → Sample → Core
+pitchOf c s =
     let g = guideNext (guideOf c) s (eqb (c .red) 1) in
     record {
-      held = t .held;
-      core = record { along = c .along; mode = c .mode; command = g .command; seen = c .seen; red = c .red; amber = c .amber; voice = c .voice; guidance = g .count };
+      sums = c .sums;
+      along = c .along;
+      mode = c .mode;
+      command = g .command;
+      seen = c .seen;
+      red = c .red;
+      amber = c .amber;
+      voice = c .voice;
+      guidance = g .count;
+      place = c .place;
     }
 
 -- ════ The answer and the step ════
@@ -154,19 +216,22 @@ alertOf red amber = cond (ltb 0 red) 2 (cond (ltb 0 amber) 1 0)
 unfoldable pub shownOf : ℕ → ℕ
 shownOf count = cond (eqb count 0) 0 1
 
-unfoldable pub answerOf : State → ℤ → Answer
-answerOf t x =
-    let c = t .core in
+unfoldable pub answerOf : Core → ℤ → Answer
+answerOf c x =
     record { refusal = 0; alert = alertOf (c .red) (c .amber); voice = cycle (c .voice); guidance = shownOf (c .guidance); command = c .command; shear = x }
 
 unfoldable pub refusedOf : ℕ → Answer
 refusedOf n = record { refusal = n; alert = 0; voice = 0; guidance = 0; command = pos 0; shear = pos 0 }
 
+-- what follows once the windows are filled: the lamps, the voice and the pitch, one after another
+unfoldable pub shownBy : Core → Sample → Core
+shownBy c s = pitchOf (voiceOf (lampsOf c (s .height)) s) s
+
 unfoldable pub acceptOf : State → Sample → Offered
 acceptOf t s =
-    let x = shearOf t s in
-    let end = pitchOf (voiceOf (lampsOf (windowsOf t s (entryOf t s)) (s .height)) s) s in
-    record { answer = answerOf end x; state = end }
+    let filled = windowsOf t s (entryOf (t .core) s) in
+    let end = shownBy (filled .core) s in
+    record { answer = answerOf end (shearOf (t .core) s); state = beside (filled .held) end }
 
 -- ════ Refusal 8 ════
 
@@ -182,8 +247,16 @@ countersFit c = leb (c .seen) 600 && leb (c .red) 600 && leb (c .amber) 600 && l
 unfoldable pub lastFits : Core → Bool
 lastFits c = within (neg 30000) (c .command) (pos 27000) && inside (ranges .along) (c .along) && inside (ranges .mode) (c .mode)
 
+unfoldable pub sameSums : Sums → Sums → Bool
+sameSums a b =
+    same (a .s200) (b .s200) && same (a .s180) (b .s180) && same (a .s160) (b .s160) && same (a .s140) (b .s140) && same (a .s120) (b .s120) && same (a .s100) (b .s100)
+
+-- "a place off the ring or a sum not its window's" (02, A9); the ring is the array's two hundred entries
+unfoldable pub ringFits : State → Bool
+ringFits t = eqb (length (t .held)) 200 && ltb (t .core .place) 200 && sameSums (t .core .sums) (sumsOf (readFrom (t .core .place) (t .held)))
+
 unfoldable pub passes : State → Bool
-passes t = heldFits (t .held) && countersFit (t .core) && lastFits (t .core)
+passes t = heldFits (t .held) && countersFit (t .core) && lastFits (t .core) && ringFits t
 
 -- "A lone sample meets 8, then 11 to 20."
 unfoldable pub refusalOf : State → Sample → ℕ
@@ -200,19 +273,30 @@ PlainPromise t s a u = _≡_ {A = Offered} (record { answer = a; state = u }) (o
 
 -- ════ What the private functions ask ════
 
-unfoldable pub HeldWithin : List ℤ → Type 0
-HeldWithin held = (k : ℕ) → natAbs (getD held k (pos 0)) ≤ 50000000
+-- two hundred entries of 50,000,000 at most
+pub record SumsWithin (s : Sums) : Type 0 where
+  pub s200 : natAbs (s .s200) ≤ 10000000000
+  pub s180 : natAbs (s .s180) ≤ 10000000000
+  pub s160 : natAbs (s .s160) ≤ 10000000000
+  pub s140 : natAbs (s .s140) ≤ 10000000000
+  pub s120 : natAbs (s .s120) ≤ 10000000000
+  pub s100 : natAbs (s .s100) ≤ 10000000000
 
--- a state that passes, as far as the arithmetic leans on it
-pub record Valid (t : State) : Type 0 where
-  pub held-le : HeldWithin (t .held)
-  pub along-le : natAbs (t .core .along) ≤ 20000
-  pub command-le : natAbs (t .core .command) ≤ 30000
-  pub guidance-le : t .core .guidance ≤ 600
+-- a ring that an entry may come into
+pub record RingValid (t : State) : Type 0 where
+  pub long : length (t .held) ≡ 200
+  pub on-ring : t .core .place < 200
+  pub sums-le : SumsWithin (t .core .sums)
 
 pub record GuideValid (g : Guide) : Type 0 where
   pub count-le : g .count ≤ 600
   pub command-le : natAbs (g .command) ≤ 30000
+
+-- a state that passes, as far as the arithmetic leans on it
+pub record Valid (t : State) : Type 0 where
+  pub ring : RingValid t
+  pub along-le : natAbs (t .core .along) ≤ 20000
+  pub guide : GuideValid (guideOf (t .core))
 
 -- a sample that no number fits, as far as the arithmetic leans on it
 pub record InRange (s : Sample) : Type 0 where

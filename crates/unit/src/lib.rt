@@ -3,14 +3,16 @@ ghost use mathlib.Core.Path.{_≡_};
 ghost use Prim.Native.Nat.{_≤_};
 ghost use lib.IntN.{natAbs};
 ghost use Rattle.unit.specs.Rules.{refusal};
-ghost use Rattle.unit.specs.Steps.{freshState, Valid, InRange, shearOf, windowsOf, lampsOf, voiceOf, pitchOf, answerOf, acceptOf, PlainPromise};
+ghost use Rattle.unit.specs.Steps.{beside, freshCore, freshState, RingValid, GuideValid, Valid, InRange, shearOf, windowsOf, lampsOf, voiceOf, guideOf, pitchOf, answerOf, acceptOf, refusalOf, PlainPromise};
 
 mod lamps;
 mod pitch;
 pub mod ranges;
 mod shear;
 mod voice;
-mod windows;
+pub mod windows;
+
+use crate::windows::Sums;
 
 // One of the twenty samples of a second, in the units of 01's table. A field holds any value that a caller may send.
 #[repr(C)]
@@ -27,9 +29,11 @@ pub struct Sample {
     pub deselect: i32,
 }
 
-// What the unit keeps from sample to sample, beside the held shears. Every value of each field has a meaning; refusal 8 has the limits.
+// What the unit keeps from sample to sample, beside the ring's entries. A field may hold any value; refusal 8 has the limits.
 #[repr(C)]
 pub struct Core {
+    // each window's running sum
+    pub sums: Sums,
     // the last accepted sample's along wind and mode; 0 while there is none
     pub along: i32,
     pub mode: i32,
@@ -44,9 +48,11 @@ pub struct Core {
     pub voice: u16,
     // 0 is off; else one more than the samples in a row that have counted towards the end
     pub guidance: u16,
+    // where the newest entry stands in the ring
+    pub place: u16,
 }
 
-// The unit's state: the last two hundred held shears, the newest first, and the core.
+// The unit's state: the last two hundred entries as a ring, the newest at the core's place and each older one a place on, round; and the core.
 #[repr(C)]
 pub struct State {
     pub held: [i32; 200],
@@ -72,6 +78,12 @@ pub struct Offered {
     pub state: State,
 }
 
+// What an accepted sample of a run is answered, and the core after it; its ring is lent.
+pub struct Stepped {
+    pub answer: Answer,
+    pub core: Core,
+}
+
 impl Sample {
     // 0, or the first of 11 to 20 that fits the sample.
     pub fn refusal(self) -> u16
@@ -81,12 +93,21 @@ impl Sample {
     }
 }
 
-impl State {
-    // The state that has seen no sample.
-    pub fn fresh() -> State
-        ensures { λ r. ⌜ r ≡ freshState ⌝ }
+impl Core {
+    // The core of the state that has seen no sample.
+    pub fn fresh() -> Core
+        ensures { λ r. ⌜ r ≡ freshCore ⌝ }
     {
-        let core = Core {
+        let sums = Sums {
+            s200: 0,
+            s180: 0,
+            s160: 0,
+            s140: 0,
+            s120: 0,
+            s100: 0,
+        };
+        Core {
+            sums: sums,
             along: 0,
             mode: 0,
             command: 0,
@@ -95,97 +116,148 @@ impl State {
             amber: 0,
             voice: 0,
             guidance: 0,
-        };
-        State {
-            held: [0; 200],
-            core: core,
+            place: 0,
         }
     }
 
     // The held shear of a sample, from the change of along wind since the last accepted one.
     fn shear(self, s: Sample) -> i32
-        requires { ⌜ Valid self × InRange s ⌝ }
+        requires { ⌜ (natAbs (self .along) ≤ 20000) × InRange s ⌝ }
         ensures { λ r. ⌜ (r ≡ shearOf self s) × (natAbs r ≤ 50000000) ⌝ }
     {
-        let core = self.core;
         let v = s.vertical;
         let a = s.airspeed;
-        if 0 < core.seen {
-            return shear::held(s.along - core.along, v, a);
+        if 0 < self.seen {
+            return shear::held(s.along - self.along, v, a);
         }
         shear::held(0, v, a)
     }
 
     // "Outside the band the windows still fill": by what the sample enters.
-    fn windows(mut self, s: Sample, entry: i32) -> State
-        ensures { λ r. ⌜ r ≡ windowsOf self s entry ⌝ }
+    fn entered(mut self, held: &mut [i32; 200], s: Sample, entry: i32) -> Core
+        requires { ⌜ RingValid (beside (now held) self) ⌝ }
+        ensures { λ r. ⌜ beside (now (held .exit)) r ≡ windowsOf (beside (now (held .entry)) self) s entry ⌝ }
     {
-        let held = self.held;
-        let next = windows::pushed(held, entry);
-        let mut core = self.core;
-        core.along = s.along;
-        self.held = next;
-        self.core = core;
+        let p = self.place as usize;
+        self.sums = windows::enter(self.sums, p, held, entry);
+        self.place = windows::back(p) as u16;
+        self.along = s.along;
         self
     }
 
-    fn lamps(mut self, height: i32) -> State
-        requires { ⌜ Valid self ⌝ }
+    fn lamps(mut self, height: i32) -> Core
         ensures { λ r. ⌜ r ≡ lampsOf self height ⌝ }
     {
-        let held = self.held;
-        let sums = windows::all_sums(held);
+        let sums = self.sums;
         let band = ranges::between(50, height, 1000);
         let up = lamps::both(band, sums.met(true));
         let down = lamps::both(band, sums.met(false));
-        let mut core = self.core;
-        let red = lamps::next(core.red, up);
-        core.red = red;
-        core.amber = lamps::unless(red, lamps::next(core.amber, down));
-        self.core = core;
+        let red = lamps::next(self.red, up);
+        self.red = red;
+        self.amber = lamps::unless(red, lamps::next(self.amber, down));
         self
     }
 
-    fn voice(mut self, s: Sample) -> State
+    fn voice(mut self, s: Sample) -> Core
         ensures { λ r. ⌜ r ≡ voiceOf self s ⌝ }
     {
-        let mut core = self.core;
-        let change = voice::changed(core.seen, core.mode, s.mode);
-        core.voice = voice::next(voice::kept(core.voice, change), core.red == 1);
-        core.mode = s.mode;
-        core.seen = 1;
-        self.core = core;
+        let change = voice::changed(self.seen, self.mode, s.mode);
+        self.voice = voice::next(voice::kept(self.voice, change), self.red == 1);
+        self.mode = s.mode;
+        self.seen = 1;
         self
     }
 
-    fn pitch(mut self, s: Sample) -> State
-        requires { ⌜ Valid self × InRange s ⌝ }
+    fn pitch(mut self, s: Sample) -> Core
+        requires { ⌜ GuideValid (guideOf self) × InRange s ⌝ }
         ensures { λ r. ⌜ r ≡ pitchOf self s ⌝ }
     {
-        let mut core = self.core;
         let g = pitch::Guide {
-            count: core.guidance,
-            command: core.command,
+            count: self.guidance,
+            command: self.command,
         };
-        let next = g.next(s, core.red == 1);
-        core.guidance = next.count;
-        core.command = next.command;
-        self.core = core;
+        let next = g.next(s, self.red == 1);
+        self.guidance = next.count;
+        self.command = next.command;
         self
     }
 
     fn answer(self, x: i32) -> Answer
         ensures { λ r. ⌜ r ≡ answerOf self x ⌝ }
     {
-        let core = self.core;
         Answer {
             refusal: 0,
-            alert: lamps::alert(core.red, core.amber),
-            voice: voice::cycle(core.voice),
-            guidance: pitch::shown(core.guidance),
-            command: core.command,
+            alert: lamps::alert(self.red, self.amber),
+            voice: voice::cycle(self.voice),
+            guidance: pitch::shown(self.guidance),
+            command: self.command,
             shear: x,
         }
+    }
+
+    // An accepted sample of a run: the ring is lent beside its core, and nothing is tested.
+    pub fn step(self, held: &mut [i32; 200], s: Sample) -> Stepped
+        requires { ⌜ refusalOf (beside (now held) self) s ≡ 0 ⌝ }
+        ensures { λ r. ⌜ PlainPromise (beside (now (held .entry)) self) s (r .answer) (beside (now (held .exit)) (r .core)) ⌝ }
+    {
+        let x = self.shear(s);
+        let filled = self.entered(held, s, x);
+        let lit = filled.lamps(s.height);
+        let spoken = lit.voice(s);
+        let end = spoken.pitch(s);
+        Stepped {
+            answer: end.answer(x),
+            core: end,
+        }
+    }
+}
+
+impl State {
+    // The state that has seen no sample.
+    pub fn fresh() -> State
+        ensures { λ r. ⌜ r ≡ freshState ⌝ }
+    {
+        State {
+            held: [0; 200],
+            core: Core::fresh(),
+        }
+    }
+
+    // The windows filled by what the sample enters.
+    fn windows(mut self, s: Sample, entry: i32) -> State
+        requires { ⌜ RingValid self ⌝ }
+        ensures { λ r. ⌜ r ≡ windowsOf self s entry ⌝ }
+    {
+        let mut held = self.held;
+        let core = self.core;
+        self.core = core.entered(&mut held, s, entry);
+        self.held = held;
+        self
+    }
+
+    fn lamps(mut self, height: i32) -> State
+        ensures { λ r. ⌜ r ≡ beside (self .held) (lampsOf (self .core) height) ⌝ }
+    {
+        let core = self.core;
+        self.core = core.lamps(height);
+        self
+    }
+
+    fn voice(mut self, s: Sample) -> State
+        ensures { λ r. ⌜ r ≡ beside (self .held) (voiceOf (self .core) s) ⌝ }
+    {
+        let core = self.core;
+        self.core = core.voice(s);
+        self
+    }
+
+    fn pitch(mut self, s: Sample) -> State
+        requires { ⌜ GuideValid (guideOf (self .core)) × InRange s ⌝ }
+        ensures { λ r. ⌜ r ≡ beside (self .held) (pitchOf (self .core) s) ⌝ }
+    {
+        let core = self.core;
+        self.core = core.pitch(s);
+        self
     }
 
     // An accepted sample.
@@ -193,14 +265,15 @@ impl State {
         requires { ⌜ Valid self × InRange s ⌝ }
         ensures { λ r. ⌜ r ≡ acceptOf self s ⌝ }
     {
-        let x = self.shear(s);
-        let entered = self.windows(s, x);
-        let lit = entered.lamps(s.height);
+        let before = self.core;
+        let x = before.shear(s);
+        let full = self.windows(s, x);
+        let lit = full.lamps(s.height);
         let spoken = lit.voice(s);
         let end = spoken.pitch(s);
-        let answer = end.answer(x);
+        let core = end.core;
         Offered {
-            answer: answer,
+            answer: core.answer(x),
             state: end,
         }
     }

@@ -1,12 +1,18 @@
-// The windows over the last two hundred held shears, the newest first (01, "The six windows").
+// The windows: a ring of the last two hundred entries, and a running sum for each window (01, "The six windows"; 02, A9).
 ghost use mathlib.Core.Path.{_≡_};
 ghost use mathlib.Core.Bool.{_||_};
-ghost use Prim.Native.Nat.{_≤_};
-ghost use Rattle.unit.specs.Rules.{row, windowSum};
-ghost use Rattle.unit.specs.Steps.{pushed, HeldWithin, sumsOf, reached, metOf};
+ghost use Prim.Native.Nat.{_*_, _≤_, _<_};
+ghost use lib.IntN.{natAbs};
+ghost use lib.ListN.{length, set, take};
+ghost use Rattle.rounding.specs.Fraction.{sumℤ};
+ghost use Rattle.unit.specs.Choice.{same};
+ghost use Rattle.unit.specs.Rules.{row};
+ghost use Rattle.unit.specs.Steps.{backOf, onOf, readFrom, movedOf, movedSums, sumsOf, sameSums, SumsWithin, reached, metOf};
+use crate::lamps::both;
 
 // The sums of the six windows, the longest first.
-pub(crate) struct Sums {
+#[repr(C)]
+pub struct Sums {
     pub s200: i64,
     pub s180: i64,
     pub s160: i64,
@@ -15,45 +21,87 @@ pub(crate) struct Sums {
     pub s100: i64,
 }
 
-// One more held shear, and the oldest dropped.
-pub(crate) fn pushed(held: [i32; 200], x: i32) -> [i32; 200]
-    ensures { λ r. ⌜ r ≡ pushed held x ⌝ }
+// One place back, round: where the next entry goes.
+pub(crate) fn back(p: usize) -> usize
+    requires { ⌜ p < 200 ⌝ }
+    ensures { λ r. ⌜ (r ≡ backOf p) × (r < 200) ⌝ }
 {
-    let mut new = held;
-    new[0] = x;
-    let mut i: usize = 1;
-    while i < 200 {
-        new[i] = held[i - 1];
-        i += 1;
+    if p == 0 {
+        return 199;
     }
-    new
+    p - 1
 }
 
-// The sum of the newest n.
-fn window_sum(held: [i32; 200], n: usize) -> i64
-    requires { ⌜ (n ≤ 200) × HeldWithin held ⌝ }
-    ensures { λ r. ⌜ r ≡ windowSum n held ⌝ }
+// n places on, round.
+fn on(p: usize, n: usize) -> usize
+    requires { ⌜ (p < 200) × (n < 200) ⌝ }
+    ensures { λ r. ⌜ (r ≡ onOf p n) × (r < 200) ⌝ }
 {
-    let mut sum: i64 = 0;
-    let mut i: usize = 0;
+    if p + n < 200 {
+        return p + n;
+    }
+    p + n - 200
+}
+
+// The sum of the window of n as x enters: it gains x, and loses the entry that was its oldest.
+fn moved(sum: i64, x: i32, held: &[i32; 200], p: usize, n: usize) -> i64
+    requires { ⌜ (natAbs sum ≤ 10000000000) × (p < 200) × (0 < n) × (n ≤ 200) × (length (now held) ≡ 200) ⌝ }
+    ensures { λ r. ⌜ r ≡ movedOf n (readFrom p (now (held .entry))) x sum ⌝ }
+{
+    let j = on(p, n - 1);
+    sum + x as i64 - held[j] as i64
+}
+
+// x is stored one place before p, round; returned is what the six sums become.
+pub(crate) fn enter(sums: Sums, p: usize, held: &mut [i32; 200], x: i32) -> Sums
+    requires { ⌜ SumsWithin sums × (p < 200) × (length (now held) ≡ 200) ⌝ }
+    ensures { λ r. ⌜ (r ≡ movedSums (readFrom p (now (held .entry))) x sums) × (now (held .exit) ≡ set (now (held .entry)) (backOf p) x) ⌝ }
+{
+    let next = Sums {
+        s200: moved(sums.s200, x, &*held, p, 200),
+        s180: moved(sums.s180, x, &*held, p, 180),
+        s160: moved(sums.s160, x, &*held, p, 160),
+        s140: moved(sums.s140, x, &*held, p, 140),
+        s120: moved(sums.s120, x, &*held, p, 120),
+        s100: moved(sums.s100, x, &*held, p, 100),
+    };
+    let q = back(p);
+    held[q] = x;
+    next
+}
+
+// The sum of the newest n, from that of the newest m; an entry is at most 2,147,483,648 in size.
+fn sum_on(held: &[i32; 200], p: usize, m: usize, sum: i64, n: usize) -> i64
+    requires { ⌜ (p < 200) × (m ≤ n) × (n ≤ 200) × (length (now held) ≡ 200) × (sum ≡ sumℤ (take m (readFrom p (now held)))) × (natAbs sum ≤ m * 2147483648) ⌝ }
+    ensures { λ r. ⌜ (r ≡ sumℤ (take n (readFrom p (now (held .entry))))) × (natAbs r ≤ n * 2147483648) ⌝ }
+{
+    let mut sum = sum;
+    let mut i = m;
     while i < n {
-        sum += held[i] as i64;
+        let j = on(p, i);
+        sum += held[j] as i64;
         i += 1;
     }
     sum
 }
 
-pub(crate) fn all_sums(held: [i32; 200]) -> Sums
-    requires { ⌜ HeldWithin held ⌝ }
-    ensures { λ r. ⌜ r ≡ sumsOf held ⌝ }
+// The six sums anew from the ring.
+pub(crate) fn all_sums(held: &[i32; 200], p: usize) -> Sums
+    requires { ⌜ (p < 200) × (length (now held) ≡ 200) ⌝ }
+    ensures { λ r. ⌜ r ≡ sumsOf (readFrom p (now (held .entry))) ⌝ }
 {
+    let s100 = sum_on(held, p, 0, 0, 100);
+    let s120 = sum_on(held, p, 100, s100, 120);
+    let s140 = sum_on(held, p, 120, s120, 140);
+    let s160 = sum_on(held, p, 140, s140, 160);
+    let s180 = sum_on(held, p, 160, s160, 180);
     Sums {
-        s200: window_sum(held, 200),
-        s180: window_sum(held, 180),
-        s160: window_sum(held, 160),
-        s140: window_sum(held, 140),
-        s120: window_sum(held, 120),
-        s100: window_sum(held, 100),
+        s200: sum_on(held, p, 180, s180, 200),
+        s180: s180,
+        s160: s160,
+        s140: s140,
+        s120: s120,
+        s100: s100,
     }
 }
 
@@ -75,7 +123,25 @@ fn reaches(sum: i64, samples: u32, value: u32, up: bool, other: bool) -> bool
     other
 }
 
+// Whether two sums are one.
+fn agree(a: i64, b: i64) -> bool
+    ensures { λ r. ⌜ r ≡ same a b ⌝ }
+{
+    a <= b && b <= a
+}
+
 impl Sums {
+    // Whether each sum is the other's.
+    pub(crate) fn equal(self, other: Sums) -> bool
+        ensures { λ r. ⌜ r ≡ sameSums self other ⌝ }
+    {
+        let a = both(agree(self.s200, other.s200), agree(self.s180, other.s180));
+        let b = both(a, agree(self.s160, other.s160));
+        let c = both(b, agree(self.s140, other.s140));
+        let d = both(c, agree(self.s120, other.s120));
+        both(d, agree(self.s100, other.s100))
+    }
+
     // Whether some window is met, upward or downward.
     pub(crate) fn met(self, up: bool) -> bool
         ensures { λ r. ⌜ r ≡ metOf up self ⌝ }

@@ -1,21 +1,23 @@
--- `unit::State::fresh` meets its contract: field by field, by computation.
-use mathlib.Core.Path.{_≡_, refl}
+-- `unit::State::fresh` meets its contract: zeros, and the core that the call gives.
 use mathlib.Core.List.{List}
+use mathlib.Core.Path.{_≡_, refl}
+use borrow.Author.Needs.{needs}
 use lib.IntN.{ℤ, pos}
 use lib.ListN.{replicate}
-use Rattle.unit.specs.Steps.{freshState}
+use Rattle.unit.specs.Steps.{beside, freshCore, freshState}
 use Rattle.unit.specs.declared.Core.{Core}
-use Rattle.unit.specs.declared.State.{State}
 use Rattle.unit.proofs.State.fresh.Statement.{statement}
 use Rattle.unit.proofs.State.fresh.Tie as tie
 
-fields : {h : List ℤ} {k : Core} → h ≡ replicate 200 (pos 0) → k ≡ freshState .core → _≡_ {A = State} (record { held = h; core = k }) freshState
+fresh-requires : tie.Need-fresh-requires
+fresh-requires c κs = search needs
+
+fields : {h : List ℤ} {k : Core} → h ≡ replicate 200 (pos 0) → k ≡ freshCore → beside h k ≡ freshState
 unfolding freshState
 fields e f = rw (e, f)
 
 returns : tie.Need-returns
-unfolding freshState
-returns c = fields refl refl
+returns c = fields refl (c .fresh .ensures)
 
 pub fresh-spec : {M : Type 1} → statement M
-fresh-spec = tie.close (tie.spec returns)
+fresh-spec = tie.close (tie.spec fresh-requires returns)

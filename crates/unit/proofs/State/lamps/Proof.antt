@@ -1,72 +1,14 @@
--- `unit::State::lamps` meets its contract: what the calls ensure.
-use mathlib.Core.Path.{_≡_}
+-- `unit::State::lamps` meets its contract: what the core's method ensures.
 use borrow.Author.Needs.{needs}
 use mir.Facts.{toZ-ofZ}
-use Rattle.unit.specs.Rules.{inside, band}
-use Rattle.unit.specs.Steps.{lampsOf}
 use Rattle.unit.proofs.State.lamps.Statement.{statement}
 use Rattle.unit.proofs.State.lamps.Tie as tie
 
-all-sums-requires : tie.Need-all-sums-requires
-all-sums-requires c κs = c .before .pre .held-le
-
-between-requires : tie.Need-between-requires
-between-requires c κs = search needs
-
-met-requires : tie.Need-met-requires
-met-requires c κs = search needs
-
-both-requires : tie.Need-both-requires
-both-requires c κs = search needs
-
-met-requires-2 : tie.Need-met-requires-2
-met-requires-2 c κs = search needs
-
-both-requires-2 : tie.Need-both-requires-2
-both-requires-2 c κs = search needs
-
-next-requires : tie.Need-next-requires
-next-requires c κs = search needs
-
-next-requires-2 : tie.Need-next-requires-2
-next-requires-2 c κs = search needs
-
-unless-requires : tie.Need-unless-requires
-unless-requires c κs = search needs
+lamps-requires : tie.Need-lamps-requires
+lamps-requires c κs = search needs
 
 returns : tie.Need-returns
-unfolding lampsOf inside band
-returns c =
-    let lit = c .before .before in
-    let down = lit .before .before in
-    let up = down .before .before in
-    let tested = up .before .before in
-    let start = tested .before .before .before in
-    let h = start .fits .height in
-    let b : tested .between .result ≡ inside band (start .args .height) = simp toZ-ofZ at (tested .between .ensures) in
-    rw (
-      c .unless .ensures,
-      c .before .next2 .ensures,
-      lit .next .ensures,
-      down .both2 .ensures,
-      down .before .met2 .ensures,
-      up .both .ensures,
-      up .before .met .ensures,
-      b,
-      tested .before .all-sums .ensures,
-    )
+returns c = rw (c .lamps .ensures, toZ-ofZ (c .before .before .fits .height))
 
 pub lamps-spec : {M : Type 1} → statement M
-lamps-spec =
-    tie.close
-    (tie.spec
-    all-sums-requires
-    between-requires
-    met-requires
-    both-requires
-    met-requires-2
-    both-requires-2
-    next-requires
-    next-requires-2
-    unless-requires
-    returns)
+lamps-spec = tie.close (tie.spec lamps-requires returns)

@@ -1,17 +1,15 @@
 -- `unit::State::offer` meets its contract: 8 is tested, then the sample; what passes both is accepted.
-use mathlib.Core.Bool.{Bool, true, false, cond}
-use mathlib.Core.Path.{_≡_, refl, sym, _∙_}
-use Prim.Native.Nat.{ℕ, suc}
-use native.Mathlib.Omega.{arith}
+use mathlib.Core.Bool.{Bool}
+use mathlib.Core.Path.{_≡_, sym, _∙_}
+use Prim.Native.Nat.{ℕ}
 use borrow.Author.Needs.{needs}
-use borrow.Author.Tests.{eq-eqb, ne-eqb}
+use borrow.Author.Tests.{ne-eqb}
 use Rattle.unit.specs.Choice.{firstOf}
 use Rattle.unit.specs.Rules.{refusal}
 use Rattle.unit.specs.Steps.{passes, refusedOf, refusalOf, offerOf, PlainPromise}
 use Rattle.unit.specs.declared.Sample.{Sample}
 use Rattle.unit.specs.declared.State.{State}
-use Rattle.unit.proofs.Choices.{passed}
-use Rattle.unit.proofs.RangeLaws.{in-range, valid}
+use Rattle.unit.proofs.StepLaws.{leans, promised}
 use Rattle.unit.proofs.State.offer.Statement.{statement}
 use Rattle.unit.proofs.State.offer.Tie as tie
 
@@ -35,15 +33,10 @@ number c =
     chain (k .args .self) (k .args .s) (c .before .before .passes .ensures) (c .before .refusal .ensures) (c .first-of .ensures)
 
 accept-requires : tie.Need-accept-requires
-unfolding refusalOf
-accept-requires c κs =
-    let k = c .before .before .before .before in
-    let e = passed (passes (k .args .self)) 7 (refusal (k .args .s)) (sym (number (c .before)) ∙ c .if1 .taken) in
-    (valid (k .args .self) (e .0), in-range (k .args .s) (e .1))
+accept-requires c κs = leans _ _ (sym (number (c .before)) ∙ c .if1 .taken)
 
 returns : tie.Need-returns
-unfolding PlainPromise offerOf
-returns c = rw (← number (c .before .before), eq-eqb _ _ (c .before .if1 .taken)) (c .accept .ensures)
+returns c = promised _ _ (sym (number (c .before .before)) ∙ c .before .if1 .taken) (c .accept .ensures)
 
 returns-2 : tie.Need-returns-2
 unfolding PlainPromise offerOf refusedOf

@@ -1,27 +1,12 @@
--- `unit::State::pitch` meets its contract: what `Guide::next` ensures.
-use mathlib.Core.Path.{_≡_}
-use borrow.Author.Needs.{needs}
-use mir.Syntax.{w32}
-use mir.Val.{SFits}
-use mir.Facts.{toZ-ofZ}
-use Rattle.unit.specs.Steps.{GuideValid, guideOf, pitchOf}
+-- `unit::State::pitch` meets its contract: what the core's method ensures.
 use Rattle.unit.proofs.State.pitch.Statement.{statement}
 use Rattle.unit.proofs.State.pitch.Tie as tie
 
-next-requires : tie.Need-next-requires
-next-requires c κs =
-    let k = c .before .before .before in
-    let command : SFits w32 (k .args .self .core .command) = search needs in
-    simp toZ-ofZ (record { count-le = k .pre .0 .guidance-le; command-le = k .pre .0 .command-le }, k .pre .1)
+pitch-requires : tie.Need-pitch-requires
+pitch-requires c κs = c .before .pre
 
 returns : tie.Need-returns
-unfolding pitchOf guideOf
-returns c =
-    let k = c .before .before .before .before .before in
-    let command : SFits w32 (k .args .self .core .command) = search needs in
-    let next : SFits w32 (c .before .next .result .command) = search needs in
-    let e = simp toZ-ofZ at (c .before .next .ensures) in
-    simp toZ-ofZ (rw e)
+returns c = rw (c .pitch .ensures)
 
 pub pitch-spec : {M : Type 1} → statement M
-pitch-spec = tie.close (tie.spec next-requires returns)
+pitch-spec = tie.close (tie.spec pitch-requires returns)

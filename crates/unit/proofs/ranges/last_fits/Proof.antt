@@ -23,17 +23,17 @@ both-requires c κs = search needs
 both-requires-2 : tie.Need-both-requires-2
 both-requires-2 c κs = search needs
 
+fit : (k : tie.After-struct-told) → let core = k .before .args .core in SFits w32 (core .command) × SFits w32 (core .along) × SFits w32 (core .mode)
+fit k = (search needs, search needs, search needs)
+
 returns : tie.Need-returns
 unfolding lastFits inside ranges
 returns c =
     let c3 = c .before .before in
     let c2 = c3 .before .before in
     let c1 = c2 .before .before in
-    let k = c1 .before .before .args .core in
-    let command : SFits w32 (k .command) = search needs in
-    let along : SFits w32 (k .along) = search needs in
-    let mode : SFits w32 (k .mode) = search needs in
-    rw (c .both2 .ensures, c .before .both .ensures, c1 .between .ensures, c2 .between2 .ensures, c3 .between3 .ensures) (simp toZ-ofZ)
+    let f = fit (c1 .before) in
+    rw (c .both2 .ensures, c .before .both .ensures, c1 .between .ensures, c2 .between2 .ensures, c3 .between3 .ensures, toZ-ofZ (f .0), toZ-ofZ (f .1), toZ-ofZ (f .2))
 
 pub last-fits-spec : {M : Type 1} → statement M
 last-fits-spec =

@@ -19,14 +19,30 @@ last-fits-requires c κs = search needs
 both-requires-2 : tie.Need-both-requires-2
 both-requires-2 c κs = search needs
 
+ring-fits-requires : tie.Need-ring-fits-requires
+ring-fits-requires c κs = search needs
+
+both-requires-3 : tie.Need-both-requires-3
+both-requires-3 c κs = search needs
+
 returns : tie.Need-returns
 unfolding passes
 returns c =
-    let last = c .before in
+    let ring = c .before in
+    let two = ring .before .before in
+    let last = two .before in
     let kept = last .before in
     let counters = kept .before in
     let held = counters .before in
-    rw (c .both2 .ensures, kept .both .ensures, held .held-fits .ensures, counters .counters-fit .ensures, last .last-fits .ensures)
+    rw (
+      c .both3 .ensures,
+      two .both2 .ensures,
+      kept .both .ensures,
+      held .held-fits .ensures,
+      counters .counters-fit .ensures,
+      last .last-fits .ensures,
+      ring .ring-fits .ensures,
+    )
 
 pub passes-spec : {M : Type 1} → statement M
 passes-spec =
@@ -37,4 +53,6 @@ passes-spec =
     both-requires
     last-fits-requires
     both-requires-2
+    ring-fits-requires
+    both-requires-3
     returns)

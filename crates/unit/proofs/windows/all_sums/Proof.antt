@@ -1,71 +1,88 @@
--- `unit::windows::all_sums` meets its contract: each field is what its call ensures.
-use mathlib.Core.Path.{_≡_, _∙_}
+-- `unit::windows::all_sums` meets its contract: each sum goes on from the one before, and the ring fills every window.
+use mathlib.Core.Path.{_≡_, sym, _∙_}
 use mathlib.Core.List.{List}
-use Prim.Native.Nat.{_<_, _^_}
+use Prim.Native.Nat.{ℕ, _*_, _≤_, _<_, _^_}
+use native.Mathlib.Omega.{arith}
 use borrow.Author.Needs.{needs}
-use lib.IntN.{ℤ}
+use lib.Dec.{lit≤}
+use lib.IntN.{ℤ, natAbs}
+use lib.ListN.{length, take}
 use lib.Signed.{mag}
 use mir.Syntax.{w64}
 use mir.Val.{toZ, ofZ}
 use mir.Facts.{toZ-ofZ}
+use Rattle.rounding.specs.Fraction.{sumℤ}
 use Rattle.unit.specs.Rules.{windowSum}
-use Rattle.unit.specs.Steps.{sumsOf}
-use Rattle.unit.specs.declared.windows.Sums.{Sums}
+use Rattle.unit.specs.Steps.{readFrom, sumsOf}
+use Rattle.unit.proofs.RingLaws.{read-length}
+use Rattle.unit.proofs.WindowLaws.{window-sum-take}
 use Rattle.unit.proofs.windows.all_sums.Statement.{statement}
 use Rattle.unit.proofs.windows.all_sums.Tie as tie
 
--- a call's result as it is read back
-read : {r x : ℤ} → mag r < 2 ^ 63 → r ≡ x → toZ w64 (ofZ w64 r) ≡ x
-read h e = toZ-ofZ (record { sfits = h }) ∙ e
+abbrev ring : tie.Start → List ℤ
+ring k = readFrom (k .args .p) (k .args .held .now)
 
--- the six of them
-all : (l : List ℤ) {a b c d e f : ℤ}
-    → a ≡ windowSum 200 l → b ≡ windowSum 180 l → c ≡ windowSum 160 l → d ≡ windowSum 140 l → e ≡ windowSum 120 l → f ≡ windowSum 100 l
-    → _≡_ {A = Sums} (record { s200 = a; s180 = b; s160 = c; s140 = d; s120 = e; s100 = f }) (sumsOf l)
-unfolding sumsOf
-all l p q r s t u = cc
+-- what a call ensures
+abbrev Summed : ℕ → List ℤ → ℤ → Type 0
+Summed n l r = (r ≡ sumℤ (take n l)) × (natAbs r ≤ n * 2147483648)
 
-window-sum-requires : tie.Need-window-sum-requires
-window-sum-requires c κs = search needs
+-- what the next asks, which goes on from it
+goes-on : (k : tie.Start) (m n : ℕ) {r : ℤ} → m ≤ n → n ≤ 200 → mag r < 2 ^ 63 → Summed m (ring k) r
+    → let sum = toZ w64 (ofZ w64 r) in
+    (k .args .p < 200)
+    × (m ≤ n) × (n ≤ 200) × (length (k .args .held .now) ≡ 200) × (sum ≡ sumℤ (take m (ring k))) × (natAbs sum ≤ m * 2147483648)
+goes-on k m n h l ok s = let e = toZ-ofZ (record { sfits = ok }) in (k .pre .0, h, l, k .pre .1, e ∙ s .0, rw e (s .1))
 
-window-sum-requires-2 : tie.Need-window-sum-requires-2
-window-sum-requires-2 c κs = search needs
+-- the window's sum
+window : (k : tie.Start) (n : ℕ) {r : ℤ} → n ≤ 200 → mag r < 2 ^ 63 → Summed n (ring k) r → toZ w64 (ofZ w64 r) ≡ windowSum n (ring k)
+window k n h ok s =
+    let l = read-length (k .args .held .now) (k .args .p) (k .pre .1) (k .pre .0) in
+    toZ-ofZ (record { sfits = ok }) ∙ s .0 ∙ sym (window-sum-take n (ring k) (omega (arith, l)))
 
-window-sum-requires-3 : tie.Need-window-sum-requires-3
-window-sum-requires-3 c κs = search needs
+sum-on-requires : tie.Need-sum-on-requires
+sum-on-requires c κs = search needs
 
-window-sum-requires-4 : tie.Need-window-sum-requires-4
-window-sum-requires-4 c κs = search needs
+sum-on-requires-2 : tie.Need-sum-on-requires-2
+sum-on-requires-2 c κs = goes-on (c .before) 100 120 (lit≤ tt) (lit≤ tt) (c .sum-on .ok) (c .sum-on .ensures)
 
-window-sum-requires-5 : tie.Need-window-sum-requires-5
-window-sum-requires-5 c κs = search needs
+sum-on-requires-3 : tie.Need-sum-on-requires-3
+sum-on-requires-3 c κs = goes-on (c .before .before) 120 140 (lit≤ tt) (lit≤ tt) (c .sum-on2 .ok) (c .sum-on2 .ensures)
 
-window-sum-requires-6 : tie.Need-window-sum-requires-6
-window-sum-requires-6 c κs = search needs
+sum-on-requires-4 : tie.Need-sum-on-requires-4
+sum-on-requires-4 c κs = goes-on (c .before .before .before) 140 160 (lit≤ tt) (lit≤ tt) (c .sum-on3 .ok) (c .sum-on3 .ensures)
+
+sum-on-requires-5 : tie.Need-sum-on-requires-5
+sum-on-requires-5 c κs = goes-on (c .before .before .before .before) 160 180 (lit≤ tt) (lit≤ tt) (c .sum-on4 .ok) (c .sum-on4 .ensures)
+
+sum-on-requires-6 : tie.Need-sum-on-requires-6
+sum-on-requires-6 c κs = goes-on (c .before .before .before .before .before) 180 200 (lit≤ tt) (lit≤ tt) (c .sum-on5 .ok) (c .sum-on5 .ensures)
 
 returns : tie.Need-returns
+unfolding sumsOf
 returns c =
     let c5 = c .before in
     let c4 = c5 .before in
     let c3 = c4 .before in
     let c2 = c3 .before in
     let c1 = c2 .before in
-    all (c1 .before .args .held)
-    (read (c1 .window-sum .ok) (c1 .window-sum .ensures))
-    (read (c2 .window-sum2 .ok) (c2 .window-sum2 .ensures))
-    (read (c3 .window-sum3 .ok) (c3 .window-sum3 .ensures))
-    (read (c4 .window-sum4 .ok) (c4 .window-sum4 .ensures))
-    (read (c5 .window-sum5 .ok) (c5 .window-sum5 .ensures))
-    (read (c .window-sum6 .ok) (c .window-sum6 .ensures))
+    let k = c1 .before in
+    rw (
+      window k 200 (lit≤ tt) (c .sum-on6 .ok) (c .sum-on6 .ensures),
+      window k 180 (lit≤ tt) (c5 .sum-on5 .ok) (c5 .sum-on5 .ensures),
+      window k 160 (lit≤ tt) (c4 .sum-on4 .ok) (c4 .sum-on4 .ensures),
+      window k 140 (lit≤ tt) (c3 .sum-on3 .ok) (c3 .sum-on3 .ensures),
+      window k 120 (lit≤ tt) (c2 .sum-on2 .ok) (c2 .sum-on2 .ensures),
+      window k 100 (lit≤ tt) (c1 .sum-on .ok) (c1 .sum-on .ensures),
+    )
 
 pub all-sums-spec : {M : Type 1} → statement M
 all-sums-spec =
     tie.close
     (tie.spec
-    window-sum-requires
-    window-sum-requires-2
-    window-sum-requires-3
-    window-sum-requires-4
-    window-sum-requires-5
-    window-sum-requires-6
+    sum-on-requires
+    sum-on-requires-2
+    sum-on-requires-3
+    sum-on-requires-4
+    sum-on-requires-5
+    sum-on-requires-6
     returns)

@@ -4,11 +4,12 @@ use mathlib.Core.Bool.{Bool, false, _||_}
 use borrow.Author.Needs.{needs}
 use lib.IntN.{ℤ}
 use mir.Syntax.{w64}
-use mir.Val.{SFits, toZ, ofZ}
+use mir.Val.{toZ, ofZ}
 use mir.Facts.{toZ-ofZ}
 use Rattle.unit.specs.Rules.{Window, row, windows}
 use Rattle.unit.specs.Steps.{sumList, reached, someReached, metOf}
 use Rattle.unit.specs.declared.windows.Sums.{Sums}
+use Rattle.unit.proofs.WindowLaws.{SumsFit}
 use Rattle.unit.proofs.windows.Sums.met.Statement.{statement}
 use Rattle.unit.proofs.windows.Sums.met.Tie as tie
 
@@ -16,15 +17,11 @@ use Rattle.unit.proofs.windows.Sums.met.Tie as tie
 abbrev test : Window → Bool → ℤ → Bool
 test w up x = reached up w (toZ w64 (ofZ w64 x))
 
--- a sum of 64 bits is read back as it is
-abbrev Fit : Sums → Type 0
-Fit s = SFits w64 (s .s100) × SFits w64 (s .s120) × SFits w64 (s .s140) × SFits w64 (s .s160) × SFits w64 (s .s180) × SFits w64 (s .s200)
-
-fit : (k : tie.After-struct-told) → Fit (k .before .args .self)
-fit k = (search needs, search needs, search needs, search needs, search needs, search needs)
+fit : (k : tie.After-struct-told) → SumsFit (k .before .args .self)
+fit k = search needs
 
 -- each test's answer is the other of the next
-chain : (up : Bool) (s : Sums) {a b c d e f : Bool} → Fit s
+chain : (up : Bool) (s : Sums) {a b c d e f : Bool} → SumsFit s
     → a ≡ (test (row 100 21000) up (s .s100) || false)
     → b ≡ (test (row 120 17480) up (s .s120) || a)
     → c ≡ (test (row 140 14990) up (s .s140) || b)
@@ -33,7 +30,7 @@ chain : (up : Bool) (s : Sums) {a b c d e f : Bool} → Fit s
     → f ≡ (test (row 200 10500) up (s .s200) || e)
     → f ≡ metOf up s
 unfolding metOf someReached sumList windows
-chain up s h p q r t u v = cc (toZ-ofZ (h .0), toZ-ofZ (h .1), toZ-ofZ (h .2), toZ-ofZ (h .3), toZ-ofZ (h .4), toZ-ofZ (h .5))
+chain up s h p q r t u v = cc (toZ-ofZ (h .s100), toZ-ofZ (h .s120), toZ-ofZ (h .s140), toZ-ofZ (h .s160), toZ-ofZ (h .s180), toZ-ofZ (h .s200))
 
 reaches-requires : tie.Need-reaches-requires
 reaches-requires c κs = search needs

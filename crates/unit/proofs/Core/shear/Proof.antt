@@ -1,19 +1,18 @@
--- `unit::State::shear` meets its contract: the change of along wind fits, and the call gives the held shear with its bound.
-use mathlib.Core.Path.{_≡_, _∙_}
+-- `unit::Core::shear` meets its contract: the change of along wind fits, and the call gives the held shear with its bound.
+use mathlib.Core.Path.{_∙_}
 use Prim.Native.Nat.{ℕ, _≤_}
-use native.Mathlib.Nat.{le-trans}
 use borrow.Author.Needs.{needs}
 use borrow.Author.Tests.{lt-ltb, le-ltb}
-use lib.Dec.{lit<, lit≤}
+use lib.Dec.{lit<}
 use lib.IntN.{ℤ, pos, natAbs, _-ℤ_}
 use lib.Signed.{_≤ℤ_}
 use mir.Syntax.{w32}
-use mir.Val.{SFits, toZ, ofZ}
+use mir.Val.{toZ, ofZ}
 use mir.Facts.{toZ-ofZ}
 use Rattle.rounding.proofs.Fits.{Holds, exact, kept, minus, sfits}
 use Rattle.unit.specs.Steps.{shearOf}
-use Rattle.unit.proofs.State.shear.Statement.{statement}
-use Rattle.unit.proofs.State.shear.Tie as tie
+use Rattle.unit.proofs.Core.shear.Statement.{statement}
+use Rattle.unit.proofs.Core.shear.Tie as tie
 
 -- a value of 32 bits as it is read back, and the difference of two
 abbrev back : ℤ → ℤ
@@ -34,23 +33,23 @@ fields v a hv ge ha =
 
 sub-held : tie.Need-sub-held
 sub-held c =
-    let k = c .before .before .before .before .before .before .before .before .before in
-    sfits w32 (change (k .args .s .along) (k .args .self .core .along) (k .pre .1 .along-le) (k .pre .0 .along-le)) (lit< tt)
+    let k = c .before .before .before .before .before .before .before .before in
+    sfits w32 (change (k .args .s .along) (k .args .self .along) (k .pre .1 .along-le) (k .pre .0)) (lit< tt)
 
 held-requires : tie.Need-held-requires
 held-requires c κs =
-    let k = c .before .before .before .before .before .before .before .before .before in
+    let k = c .before .before .before .before .before .before .before .before in
     let r = k .pre .1 in
     let f = fields (k .args .s .vertical) (k .args .s .airspeed) (r .vertical-le) (r .airspeed-ge) (r .airspeed-le) in
-    (size (kept w32 (change (k .args .s .along) (k .args .self .core .along) (r .along-le) (k .pre .0 .along-le)) (lit< tt)), f .0, f .1, f .2)
+    (size (kept w32 (change (k .args .s .along) (k .args .self .along) (r .along-le) (k .pre .0)) (lit< tt)), f .0, f .1, f .2)
 
 -- the call's result as it is read back
 returns : tie.Need-returns
 unfolding shearOf
 returns c =
-    let k = c .before .before .before .before .before .before .before .before .before .before in
+    let k = c .before .before .before .before .before .before .before .before .before in
     let r = k .pre .1 in
-    let d = kept w32 (change (k .args .s .along) (k .args .self .core .along) (r .along-le) (k .pre .0 .along-le)) (lit< tt) in
+    let d = kept w32 (change (k .args .s .along) (k .args .self .along) (r .along-le) (k .pre .0)) (lit< tt) in
     let v = kept w32 (exact (k .args .s .vertical) (r .vertical-le)) (lit< tt) in
     let a = kept w32 (exact (k .args .s .airspeed) (r .airspeed-le)) (lit< tt) in
     let e = toZ-ofZ (record { sfits = c .held .ok }) in
@@ -62,7 +61,7 @@ held-requires-2 c κs = search needs
 returns-2 : tie.Need-returns-2
 unfolding shearOf
 returns-2 c =
-    let k = c .before .before .before .before .before .before in
+    let k = c .before .before .before .before .before in
     let r = k .pre .1 in
     let v = kept w32 (exact (k .args .s .vertical) (r .vertical-le)) (lit< tt) in
     let a = kept w32 (exact (k .args .s .airspeed) (r .airspeed-le)) (lit< tt) in

@@ -1,4 +1,4 @@
--- `unit::State::answer` meets its contract: what the calls ensure, and the command and the shear as they are read back.
+-- `unit::Core::answer` meets its contract: what the calls ensure, and the command and the shear as they are read back.
 use mathlib.Core.Path.{_≡_}
 use Prim.Native.Nat.{ℕ}
 use borrow.Author.Needs.{needs}
@@ -8,9 +8,9 @@ use mir.Facts.{toZ-ofZ}
 use Rattle.unit.specs.Rules.{cycle}
 use Rattle.unit.specs.Steps.{alertOf, shownOf, answerOf}
 use Rattle.unit.specs.declared.Answer.{Answer}
-use Rattle.unit.specs.declared.State.{State}
-use Rattle.unit.proofs.State.answer.Statement.{statement}
-use Rattle.unit.proofs.State.answer.Tie as tie
+use Rattle.unit.specs.declared.Core.{Core}
+use Rattle.unit.proofs.Core.answer.Statement.{statement}
+use Rattle.unit.proofs.Core.answer.Tie as tie
 
 alert-requires : tie.Need-alert-requires
 alert-requires c κs = search needs
@@ -22,11 +22,11 @@ shown-requires : tie.Need-shown-requires
 shown-requires c κs = search needs
 
 -- an answer by its fields
-fields : (t : State) (x : ℤ) {a v g : ℕ} {command shear : ℤ}
-    → a ≡ alertOf (t .core .red) (t .core .amber) → v ≡ cycle (t .core .voice) → g ≡ shownOf (t .core .guidance) → command ≡ t .core .command → shear ≡ x
-    → _≡_ {A = Answer} (record { refusal = 0; alert = a; voice = v; guidance = g; command = command; shear = shear }) (answerOf t x)
+fields : (k : Core) (x : ℤ) {a v g : ℕ} {command shear : ℤ}
+    → a ≡ alertOf (k .red) (k .amber) → v ≡ cycle (k .voice) → g ≡ shownOf (k .guidance) → command ≡ k .command → shear ≡ x
+    → _≡_ {A = Answer} (record { refusal = 0; alert = a; voice = v; guidance = g; command = command; shear = shear }) (answerOf k x)
 unfolding answerOf
-fields t x p q r c e = rw (p, q, r, c, e)
+fields k x p q r c e = rw (p, q, r, c, e)
 
 returns : tie.Need-returns
 returns c =
