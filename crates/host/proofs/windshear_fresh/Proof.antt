@@ -1,11 +1,11 @@
 -- `host::windshear_fresh` meets its contract: it promises what `State::fresh` does.
 use borrow.Author.Needs.{needs}
-use Rattle.unit.specs.Steps.{freshState}
+use Rattle.unit.specs.Steps.{freshCore, freshState}
 use Rattle.host.proofs.windshear_fresh.Statement.{statement}
 use Rattle.host.proofs.windshear_fresh.Tie as tie
 
 returns : tie.Need-returns
-unfolding freshState
+unfolding freshState freshCore
 returns c = c .fresh .ensures
 
 pub windshear-fresh-spec : {M : Type 1} → statement M

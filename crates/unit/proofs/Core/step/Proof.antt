@@ -28,12 +28,6 @@ lamps-requires c κs = search needs
 voice-requires : tie.Need-voice-requires
 voice-requires c κs = search needs
 
-pitch-requires : tie.Need-pitch-requires
-pitch-requires c κs =
-    let w = c .before .before .before in
-    let k = w .before .before .before in
-    (guide-kept (before k) (k .args .s) _ _ (w .entered .ensures) (c .before .lamps .ensures) (c .voice .ensures) (asked k .0), asked k .1)
-
 answer-requires : tie.Need-answer-requires
 answer-requires c κs = search needs
 
@@ -52,6 +46,12 @@ returns c =
     let a = simp toZ-ofZ at (c .answer .ensures) in
     promised (before k) (k .args .s) (k .pre)
     (chain (before k) (k .args .s) (w .before .before .shear .ensures .0) entered lit (c .before .before .voice .ensures) (c .before .pitch .ensures) a)
+
+pitch-requires : tie.Need-pitch-requires
+pitch-requires c κs =
+    let w = c .before .before .before in
+    let k = w .before .before .before in
+    (guide-kept (before k) (k .args .s) _ _ (w .entered .ensures) (c .before .lamps .ensures) (c .voice .ensures) (asked k .0), asked k .1)
 
 pub step-spec : {M : Type 1} → statement M
 step-spec =
