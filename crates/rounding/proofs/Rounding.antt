@@ -2,13 +2,14 @@
 use mathlib.Core.Path.{_≡_, refl, sym, ap, _∙_}
 use mathlib.Core.Bool.{true, false}
 use Prim.Native.Nat.{ℕ, zero, suc, _+_, _*_, _-_, _/_, _%_, _≤_, _<_, _^_}
-use native.Mathlib.Nat.{div-add-mod', div-eq-of-lt-le, div-mul-le-self, lt-div-mul-add, div-lt-iff-lt-mul, div-zero, mul-pos, le-mul-of-pos-right, mul-div-mul-right}
+use native.Mathlib.Nat.{div-add-mod', div-eq-of-lt-le, div-mul-le-self, lt-div-mul-add, div-lt-iff-lt-mul, le-div-iff-mul-le, div-zero, mul-pos, mul-le-mul-right, le-of-mul-le-mul-right, le-mul-of-pos-right, mul-div-mul-right}
 use native.Mathlib.Decide.{decLt}
 use native.Mathlib.Omega.{arith}
 use lib.IntN.{ℤ, pos, negsuc, negℤ, natAbs, negℤ-negℤ, _-ℤ_, _*ℤ_}
-use lib.Signed.{ltZ}
+use lib.Signed.{ltZ, _≤ℤ_}
+use Rattle.rounding.specs.Claims.{RoundsInOrder}
 use Rattle.rounding.specs.Rounding.{nearest, roundAway, NearestAway}
-use Rattle.rounding.proofs.Difference.{any, nat, negD, -D, *D, sizeD}
+use Rattle.rounding.proofs.Difference.{up, down, any, nat, negD, -D, *D, sizeD, leD, ofLe}
 use Rattle.rounding.proofs.Fits.{size-neg, negative, natural}
 
 -- the whole number below, plus one half of the divisor
@@ -58,6 +59,19 @@ nearest-scale n d k p = go (2 * (n * k) + d * k) (2 * (d * k)) (omega arith) (om
     go : (a b : ℕ) → a ≡ (2 * n + d) * k → b ≡ 2 * d * k → a / b ≡ (2 * n + d) / (2 * d)
     go a b e f = rw (e, f) (mul-div-mul-right (2 * n + d) (2 * d) p)
 
+-- a whole number stays
+nearest-whole : (k d : ℕ) → 0 < d → nearest (k * d) d ≡ k
+unfolding nearest
+nearest-whole k d p = div-eq-of-lt-le (2 * d) (omega arith) (omega arith)
+
+-- a larger fraction, multiplied out, is no smaller when it is rounded
+nearest-order : (n d m e : ℕ) → 0 < d → 0 < e → n * e ≤ m * d → nearest n d ≤ nearest m e
+unfolding nearest
+nearest-order n d m e p q h =
+    let low = mul-le-mul-right e (near-low n d) in
+    le-div-iff-mul-le {k = 2 * e} {x = nearest n d} {y = 2 * m + e} (omega arith) .1
+    (le-of-mul-le-mul-right {m = nearest n d * (2 * e)} {n = 2 * m + e} {k = d} (omega (arith, low, h)) p)
+
 -- the rule keeps the sign
 pub round-size : (x : ℤ) (d : ℕ) → natAbs (roundAway x d) ≡ nearest (natAbs x) d
 unfolding roundAway
@@ -92,6 +106,22 @@ unfolding roundAway
 round-scale (pos n) d k p = ap pos (nearest-scale n d k p)
 round-scale (negsuc n) d k p =
     round-neg (pos (suc n * k)) (d * k) ∙ ap (λ (m : ℕ). negℤ (pos m)) (nearest-scale (suc n) d k p)
+
+pub round-whole : (k d : ℕ) → 0 < d → roundAway (pos (k * d)) d ≡ pos k
+unfolding roundAway
+round-whole k d p = ap pos (nearest-whole k d p)
+
+pub rounds-in-order : RoundsInOrder
+unfolding RoundsInOrder roundAway
+rounds-in-order a b p q h = go (a .num) (b .num) (omega (arith, ofLe h (*D (any (a .num)) (nat (b .den))) (*D (any (b .num)) (nat (a .den)))))
+  where
+    go : (x y : ℤ) → up x * b .den + down y * a .den ≤ up y * a .den + down x * b .den → roundAway x (a .den) ≤ℤ roundAway y (b .den)
+    go (pos n) (pos m) k = leD (nat (nearest n (a .den))) (nat (nearest m (b .den))) (omega (arith, nearest-order n (a .den) m (b .den) p q (omega arith)))
+    go (pos n) (negsuc m) k = absurd (let z : ⊥ = omega (arith, mul-pos {m = suc m} (omega arith) p) in z)
+    go (negsuc n) (pos m) k = leD (negD (nat (nearest (suc n) (a .den)))) (nat (nearest m (b .den))) (omega arith)
+    go (negsuc n) (negsuc m) k =
+        leD (negD (nat (nearest (suc n) (a .den)))) (negD (nat (nearest (suc m) (b .den))))
+        (omega (arith, nearest-order (suc m) (b .den) (suc n) (a .den) q p (omega arith)))
 
 -- twice the distance from the exact fraction is at most one
 pub round-error : (x : ℤ) (d : ℕ) → 0 < d → 2 * natAbs (roundAway x d *ℤ pos d -ℤ x) ≤ d

@@ -1,2 +1,4 @@
 pub mod Rounding
 pub mod Fraction
+pub mod Cut
+pub mod Claims

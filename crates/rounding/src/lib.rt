@@ -1,7 +1,8 @@
-// One rule: a fraction to the nearest whole number, ties away from zero (01, "Shear").
+// One rule: a fraction to the nearest whole number, ties away from zero (01, "Shear"). And the cut at a bound either way, which goes with it.
 ghost use mathlib.Core.Path.{_≡_};
 ghost use Prim.Native.Nat.{_<_, _≤_, _^_};
 ghost use lib.IntN.{pos, negℤ, natAbs};
+ghost use Rattle.rounding.specs.Cut.{cut};
 ghost use Rattle.rounding.specs.Rounding.{nearest, roundAway};
 
 // The rule on sizes. By quotient and remainder: nothing is doubled, so nothing overflows.
@@ -47,4 +48,15 @@ pub fn round(num: i64, den: u64) -> i64
         return minus(size);
     }
     size as i64
+}
+
+// A number cut to between -most and most.
+pub fn cut(x: i64, most: u32) -> i64
+    ensures { λ r. ⌜ r ≡ cut most x ⌝ }
+{
+    let bound = most as i64;
+    if x < -bound {
+        return -bound;
+    }
+    if bound < x { bound } else { x }
 }

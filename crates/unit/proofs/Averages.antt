@@ -1,5 +1,6 @@
 -- The window argument, over the window's length, any value and any table: a held sum is within half its length of the exact one, so an exact
--- average that reaches the value and 0.000005 more meets the window, and one that lies more than 0.000005 below does not.
+-- average that reaches the value and 0.000005 more meets the window, and one that lies more than 0.000005 below does not. What enters the windows
+-- is what enters the exact averages, held, though the one is cut after it is rounded and the other before (`entry-is`).
 use mathlib.Core.Bool.{Bool, true, false, _||_}
 use mathlib.Core.List.{List, [], _∷_, _++_, map, List·Memᴰ, List·Memᴰ·head, List·Memᴰ·tail}
 use mathlib.Core.Path.{_≡_, refl, sym, ap, _∙_, subst}
@@ -7,18 +8,22 @@ use Prim.Native.Nat.{ℕ, zero, suc, _+_, _*_, _≤_, _<_}
 use native.Mathlib.Nat.{zero-mul, le-of-mul-le-mul-right, lt-of-mul-lt-mul-left, mul-comm, mul-pos}
 use native.Mathlib.Omega.{arith}
 use borrow.Author.Tests.{ltb-true}
-use lib.Dec.{T, ltb, lit<}
+use lib.Dec.{ltb, lit<}
 use lib.IntN.{ℤ, pos, natAbs, _+ℤ_, _-ℤ_, _*ℤ_}
 use lib.ListN.{length, take, replicate, length-append, length-replicate}
 use lib.Seq.{length-take-le}
-use lib.Signed.{leZ, ltZ, _≤ℤ_, _<ℤ_, clashℤ}
+use lib.Signed.{_≤ℤ_, _<ℤ_}
+use Rattle.rounding.specs.Claims.{RoundsThenCuts}
+use Rattle.rounding.specs.Cut.{cut, cutF}
 use Rattle.rounding.specs.Fraction.{Fraction, _over_, _+F_, _≤F_, _<F_, zeroF, sumF, timesF, roundF, AllPositive, Positive, sumℤ}
 use Rattle.rounding.specs.Rounding.{nearest, roundAway}
+use Rattle.rounding.proofs.CutLaws.{cut-positive, times-cut, rounds-then-cuts}
 use Rattle.rounding.proofs.Difference.{up, down, any, nat, +D, -D, *D, eqD, leD, ltD, ofLe, ofLt, ofSize}
+use Rattle.rounding.proofs.Order.{le-leZ, lt-leZ}
 use Rattle.rounding.proofs.Sums.{sum-error, sum-positive}
 use Rattle.unit.specs.Choice.{anyOf, every}
 use Rattle.unit.specs.Claims.{tolerance, tableValue, averageOf, Reaches, Below, PositiveDivisors}
-use Rattle.unit.specs.Rules.{held, heldShear, exact, entry, exactEntry, entries, Window, lastOf, windowSum, average, limit, metUp}
+use Rattle.unit.specs.Rules.{held, heldShear, exact, entryLimit, entry, exactEntry, entries, Window, lastOf, windowSum, average, limit, metUp}
 use Rattle.unit.specs.declared.Sample.{Sample}
 use Rattle.unit.proofs.RangeLaws.{every-member}
 
@@ -91,38 +96,39 @@ map-zeros [] zero = refl
 map-zeros [] (suc n) = ap (λ (t : List ℤ). pos 0 ∷ t) (map-zeros [] n)
 map-zeros (f ∷ l) n = ap (λ (t : List ℤ). hold f ∷ t) (map-zeros l n)
 
--- what enters the windows is what enters the exact averages, held
-entry-is : (s : Sample) (l : List Sample) → entry s l ≡ hold (exactEntry s l)
-unfolding entry exactEntry held heldShear exact
-entry-is s l = refl
+-- a fraction cut and then held is the fraction held and then cut
+hold-cut : (f : Fraction) → Positive f → cut entryLimit (hold f) ≡ hold (cutF (pos entryLimit over 100000) f)
+unfolding RoundsThenCuts
+hold-cut f p =
+    rounds-then-cuts entryLimit 100000 (timesF 100000 f) (lit< tt) p ∙ ap roundF (sym (times-cut 100000 (pos entryLimit over 100000) f (lit< tt)))
 
-entries-are : (l : List Sample) → entries entry l ≡ map hold (entries exactEntry l)
+-- what enters the windows is what enters the exact averages, held
+entry-is : (s : Sample) (l : List Sample) → Positive (exact s l) → entry s l ≡ hold (exactEntry s l)
+unfolding entry exactEntry held heldShear exact
+entry-is s l p = hold-cut (exact s l) p
+
+entries-are : (l : List Sample) → AllPositive (entries exact l) → entries entry l ≡ map hold (entries exactEntry l)
 unfolding entries
-entries-are [] = refl
-entries-are (s ∷ l) = rw (entry-is s l, entries-are l)
+entries-are [] h = refl
+entries-are (s ∷ l) h = rw (entry-is s l (h .0), entries-are l (h .1))
+
+cut-entries : (l : List Sample) → AllPositive (entries exact l) → AllPositive (entries exactEntry l)
+unfolding entries exactEntry
+cut-entries [] h = tt
+cut-entries (s ∷ l) h = (cut-positive (pos entryLimit over 100000) (exact s l) (lit< tt) (h .0), cut-entries l (h .1))
 
 -- a window's sum is that of the exact entries, each held
-window-is : (n : ℕ) (l : List Sample) → windowSum n (entries entry l) ≡ sumℤ (map hold (lastOf n zeroF (entries exactEntry l)))
+window-is : (n : ℕ) (l : List Sample) → AllPositive (entries exact l)
+    → windowSum n (entries entry l) ≡ sumℤ (map hold (lastOf n zeroF (entries exactEntry l)))
 unfolding windowSum lastOf
-window-is n l =
-    rw (entries-are l, map-zeros (entries exactEntry l) n, map-take n (entries exactEntry l ++ replicate n zeroF))
+window-is n l h =
+    rw (entries-are l h, map-zeros (entries exactEntry l) n, map-take n (entries exactEntry l ++ replicate n zeroF))
 
 length-last : (n : ℕ) (l : List Fraction) → length (lastOf n zeroF l) ≡ n
 unfolding lastOf
 length-last n l = length-take-le n (l ++ replicate n zeroF) (rw (length-append, length-replicate) (omega arith))
 
 -- ════ Windows and tables ════
-
-is-true : (b : Bool) → T b → b ≡ true
-is-true true t = refl
-is-true false t = absurd t
-
-is-false : {a b : ℤ} → b <ℤ a → leZ a b ≡ false
-is-false {a} {b} h = go (leZ a b) (λ t. clashℤ h (record { le = t }))
-  where
-    go : (t : Bool) → (T t → ⊥) → t ≡ false
-    go true f = absurd (f tt)
-    go false f = refl
 
 last-positive : (n : ℕ) (l : List Fraction) → AllPositive l → AllPositive (lastOf n zeroF l)
 unfolding lastOf
@@ -132,14 +138,17 @@ last-positive n l h = all-take n (l ++ replicate n zeroF) (all-zeros l n h)
 abbrev exact-sum : ℕ → List Sample → Fraction
 exact-sum n l = sumF (lastOf n zeroF (entries exactEntry l))
 
-module _ (l : List Sample) (ok : AllPositive (entries exactEntry l)) where
+module _ (l : List Sample) (ok : AllPositive (entries exact l)) where
+  positive-entries : AllPositive (entries exactEntry l)
+  positive-entries = cut-entries l ok
+
   near : (n : ℕ) → 2 * natAbs (windowSum n (entries entry l) *ℤ pos (exact-sum n l .den) -ℤ exact-sum n l .num *ℤ pos 100000) ≤ n * exact-sum n l .den
   near n =
-      rw (window-is n l)
-      (rw (length-last n (entries exactEntry l)) at (hold-error (lastOf n zeroF (entries exactEntry l)) (last-positive n (entries exactEntry l) ok)))
+      rw (window-is n l ok)
+      (rw (length-last n (entries exactEntry l)) at (hold-error (lastOf n zeroF (entries exactEntry l)) (last-positive n (entries exactEntry l) positive-entries)))
 
   divisor : (n : ℕ) → 0 < exact-sum n l .den
-  divisor n = sum-positive (lastOf n zeroF (entries exactEntry l)) (last-positive n (entries exactEntry l) ok)
+  divisor n = sum-positive (lastOf n zeroF (entries exactEntry l)) (last-positive n (entries exactEntry l) positive-entries)
 
   -- the fractions of a table whose windows are not empty have positive divisors
   pub table-positive : (table : List Window) → every (λ w. ltb 0 (w .samples)) table ≡ true → (w : Window) → List·Memᴰ w table → PositiveDivisors l w
@@ -147,19 +156,19 @@ module _ (l : List Sample) (ok : AllPositive (entries exactEntry l)) where
   table-positive table e w m =
       let n : 0 < w .samples = ltb-true 0 (w .samples) (every-member _ table w e m) in
       let d = mul-pos (divisor (w .samples)) n in
-      (d, (lit< tt, (lit< tt, (lit< tt, (mul-pos d (lit< tt), ok)))))
+      (d, (lit< tt, (lit< tt, (lit< tt, (mul-pos d (lit< tt), positive-entries)))))
 
   reached-met : (w : Window) → Reaches l w → metUp (entries entry l) w ≡ true
   unfolding Reaches tableValue tolerance averageOf average metUp limit
   reached-met w h =
       let n = w .samples in
-      is-true _ (sum-reaches (windowSum n (entries entry l)) (exact-sum n l .num) (exact-sum n l .den) n (w .value) (divisor n) (near n) h .le)
+      le-leZ (sum-reaches (windowSum n (entries entry l)) (exact-sum n l .num) (exact-sum n l .den) n (w .value) (divisor n) (near n) h)
 
   below-unmet : (w : Window) → Below l w → metUp (entries entry l) w ≡ false
   unfolding Below tableValue tolerance averageOf average metUp limit
   below-unmet w h =
       let n = w .samples in
-      is-false (sum-below (windowSum n (entries entry l)) (exact-sum n l .num) (exact-sum n l .den) n (w .value) (divisor n) (near n) h)
+      lt-leZ (sum-below (windowSum n (entries entry l)) (exact-sum n l .num) (exact-sum n l .den) n (w .value) (divisor n) (near n) h)
 
   -- some window of a table reaches its value: some window is met; all lie below: none is
   pub table-met : (table : List Window) (w : Window) → List·Memᴰ w table → Reaches l w → anyOf (metUp (entries entry l)) table ≡ true

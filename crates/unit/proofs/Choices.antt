@@ -1,14 +1,15 @@
 -- Laws of the choices and comparisons that the rules are written with.
-use mathlib.Core.Path.{_≡_, refl, sym, subst}
+use mathlib.Core.Path.{_≡_, refl}
 use mathlib.Core.Bool.{Bool, true, false, not, _&&_, and-eq-true-iff, cond}
 use Prim.Native.Nat.{ℕ, suc}
 use native.Mathlib.Nat.{suc-ne-zero}
 use native.Mathlib.Omega.{arith}
 use borrow.Author.Tests.{lt-ltb, le-ltb, leb-true, leb-false}
-use lib.Dec.{T, ltb, leb}
+use lib.Dec.{ltb, leb}
 use lib.IntN.{ℤ, pos, negsuc}
-use lib.Signed.{ltZ, leZ, _≤ℤ_, _<ℤ_, ≤ℤ-refl, ltZ-no}
+use lib.Signed.{ltZ, leZ, _≤ℤ_, ≤ℤ-refl}
 use Rattle.rounding.proofs.Difference.{any, leD, ofLe, ofLt}
+use Rattle.rounding.proofs.Order.{ltZ-true, ltZ-false}
 use Rattle.unit.specs.Choice.{firstOf, smaller, larger}
 
 -- what holds of each of two, where the test picks it, holds of the one that is picked
@@ -41,19 +42,14 @@ ltZ-not (negsuc a) (negsuc b) = ltb-not b a
 
 -- a test's value as an order
 pub below-le : (a b : ℤ) → ltZ a b ≡ true → a ≤ℤ b
-below-le a b e =
-    let h : a <ℤ b = record { lt = subst T (sym e) tt } in
-    leD (any a) (any b) (omega (arith, ofLt h (any a) (any b)))
-
-pub not-below-le : (a b : ℤ) → ltZ a b ≡ false → b ≤ℤ a
-not-below-le a b e = ltZ-no (subst (λ (t : Bool). T (not t)) (sym e) tt)
+below-le a b e = leD (any a) (any b) (omega (arith, ofLt (ltZ-true a b e) (any a) (any b)))
 
 pub ≤ℤ-trans : {a b c : ℤ} → a ≤ℤ b → b ≤ℤ c → a ≤ℤ c
 ≤ℤ-trans {a} {b} {c} h k = leD (any a) (any c) (omega (arith, ofLe h (any a) (any b), ofLe k (any b) (any c)))
 
 pub smaller-le-left : (a b : ℤ) → smaller a b ≤ℤ a
 unfolding smaller
-smaller-le-left a b = cond-has (λ (x : ℤ). x ≤ℤ a) (ltZ a b) (λ e. ≤ℤ-refl a) (not-below-le a b)
+smaller-le-left a b = cond-has (λ (x : ℤ). x ≤ℤ a) (ltZ a b) (λ e. ≤ℤ-refl a) (ltZ-false a b)
 
 pub smaller-le-right : (a b : ℤ) → smaller a b ≤ℤ b
 unfolding smaller

@@ -11,13 +11,14 @@ use borrow.Author.Tests.{eqb-true, eqb-false, eq-eqb, ne-eqb, lt-ltb}
 use lib.Dec.{T, ltb, eqb, lit<, lit≤}
 use lib.IntN.{ℤ, pos, natAbs}
 use lib.Signed.{leZ, _≤ℤ_, leZ-yes}
+use Rattle.rounding.specs.Cut.{cut}
 use Rattle.rounding.specs.Fraction.{AllPositive}
+use Rattle.rounding.proofs.CutLaws.{cut-le}
 use Rattle.rounding.proofs.Difference.{any, nat, leD, ofSize}
-use Rattle.rounding.proofs.Fits.{exact, minus, size-ge}
+use Rattle.rounding.proofs.Fits.{size-ge}
 use Rattle.unit.specs.Choice.{neg, firstOf, within, same, anyOf, every}
 use Rattle.unit.specs.Claims.{stateAfter, answerTo, accepted, StatesPass, LeftPasses, shows, AnswersByRules, RefusedIsNothing, StatesHold, listAfter, listAnswer, SummedAnew, Reaches, Below, PositiveDivisors, lastAlert, Demand3Lone}
-use Rattle.unit.specs.Rules as rules
-use Rattle.unit.specs.Rules.{ranges, inside, refusal, exactShear, held, entry, exactEntry, entries, Window, windows, inBand, lastOf, windowSum, metUp, condition, redCondition, litFor, redFor, redLit, amberFor, amberLit, voiceFor, guidance, Guidance, off, on, isOn, commandOf, guidanceBy}
+use Rattle.unit.specs.Rules.{ranges, inside, refusal, exactShear, held, exact, entryLimit, entry, entries, Window, windows, inBand, lastOf, windowSum, metUp, condition, redCondition, litFor, redFor, redLit, amberFor, amberLit, voiceFor, guidance, Guidance, off, on, isOn, commandOf, guidanceBy}
 use Rattle.unit.specs.Steps.{freshCore, freshState, readFrom, backOf, sumsOf, shearOf, entryOf, coreWith, windowsOf, lampsOf, voiceOf, guideOf, pitchOf, shownBy, acceptOf, heldFits, countersFit, lastFits, sameSums, ringFits, passes, refusedOf, refusalOf, offerOf}
 use Rattle.unit.specs.declared.Answer.{Answer}
 use Rattle.unit.specs.declared.Offered.{Offered}
@@ -27,7 +28,6 @@ use Rattle.unit.specs.declared.pitch.Guide.{Guide}
 use Rattle.unit.proofs.Averages.{table-positive, table-met, table-unmet}
 use Rattle.unit.proofs.Choices.{cond-has, passed}
 use Rattle.unit.proofs.Follow.{coreOf, Follows, toGuide, countOf, shear-follows, entry-follows, guide-next, core-next, answered, left, left-follows, accept-follows}
-use Rattle.unit.proofs.HeldShear.{shear-le}
 use Rattle.unit.proofs.Holding.{fresh-holds, accept-holds, fits-holds}
 use Rattle.unit.proofs.PitchLaws.{lamp-le, unless-le, voice-le, count-le, command-ge, command-le, command-cap}
 use Rattle.unit.proofs.RangeLaws.{every-set, bounds, inside-bounds, size-le, in-range-fields, in-range, Passing, passing, passes-of}
@@ -71,6 +71,9 @@ size-fits x h =
     let s = ofSize 1 {k = 50000000} (omega arith) (any x) in
     within-of (leD (any (neg 50000000)) (any x) (omega arith)) (leD (any x) (nat 50000000) (omega arith))
 
+cut-fits : (x : ℤ) → fits (cut entryLimit x) ≡ true
+cut-fits x = size-fits (cut entryLimit x) (omega (arith, cut-le entryLimit x))
+
 at-most : {n k : ℕ} → n ≤ k → k ≤ 600 → n ≤ 600
 at-most h k = omega (arith, h, k)
 
@@ -78,14 +81,8 @@ next-passing : (t : State) (s : Sample) → Passing t → refusal s ≡ 0 → Pa
 unfolding ranges acceptOf entryOf windowsOf coreWith shownBy lampsOf voiceOf pitchOf guideOf shearOf
 next-passing t s p h =
     let f = in-range-fields s h in
-    let r = in-range s h in
-    let wind = size-le 20000 (inside-bounds (p .along-in)) tt tt in
-    let turn =
-    cond-has (λ (x : ℤ). natAbs x ≤ 40000) (ltb 0 (t .core .seen)) (λ k. minus (exact (s .along) (r .along-le)) (exact (t .core .along) wind) .le) (λ k. lit≤ tt)
-    in
-    let shear = size-fits (shearOf (t .core) s) (shear-le _ (s .vertical) (s .airspeed) turn (r .vertical-le) (size-ge (s .airspeed) (r .airspeed-ge))) in
     record {
-      held-in = every-set fits (t .held) (backOf (t .core .place)) _ (p .held-in) shear;
+      held-in = every-set fits (t .held) (backOf (t .core .place)) _ (p .held-in) (cut-fits (shearOf (t .core) s));
       seen-le = lit≤ tt;
       red-le = at-most (lamp-le _ _) (lit≤ tt);
       amber-le = at-most (unless-le _ _) (at-most (lamp-le _ _) (lit≤ tt));
@@ -183,8 +180,8 @@ refused-is-nothing before later bad next h = ap (λ t. offerOf t next) (state-sk
 
 -- ════ Demand 3 ════
 
-exact-positive : (l : List Sample) → AllAccepted l → AllPositive (entries exactEntry l)
-unfolding entries exactEntry rules.exact exactShear
+exact-positive : (l : List Sample) → AllAccepted l → AllPositive (entries exact l)
+unfolding entries exact exactShear
 exact-positive [] h = tt
 exact-positive (s ∷ l) h =
     let a = size-ge (s .airspeed) (in-range s (h .0) .airspeed-ge) in
@@ -266,24 +263,24 @@ module _ (before : List Sample) (s : Sample) (e : refusal s ≡ 0) where
   alert-is : answerTo s before .alert ≡ shows s (accepted before) .alert
   alert-is = ap (λ a. a .alert) (answer-is s before e)
 
-  positive-entries : AllPositive (entries exactEntry (s ∷ accepted before))
-  positive-entries = exact-positive (s ∷ accepted before) (e, accepted-all before)
+  positive-shears : AllPositive (entries exact (s ∷ accepted before))
+  positive-shears = exact-positive (s ∷ accepted before) (e, accepted-all before)
 
   positive : (w : Window) → List·Memᴰ w windows → PositiveDivisors (s ∷ accepted before) w
   unfolding windows every
-  positive = table-positive (s ∷ accepted before) positive-entries windows refl
+  positive = table-positive (s ∷ accepted before) positive-shears windows refl
 
   lit : (w : Window) → List·Memᴰ w windows → inBand s ≡ true → Reaches (s ∷ accepted before) w → eqb (answerTo s before .alert) 2 ≡ true
   lit w m b h =
       eq-eqb _ 2 (alert-is ∙ red-two s (accepted before) (lit-by s (accepted before)
-      (condition-in s (accepted before) ∙ rw (b, table-met (s ∷ accepted before) positive-entries windows w m h))))
+      (condition-in s (accepted before) ∙ rw (b, table-met (s ∷ accepted before) positive-shears windows w m h))))
 
   dark : eqb (lastAlert before) 2 ≡ false → (inBand s ≡ false) ⊎ ((w : Window) → List·Memᴰ w windows → Below (s ∷ accepted before) w)
       → eqb (answerTo s before .alert) 2 ≡ false
   dark d why =
       ne-eqb _ 2 (λ two. dark-not s (accepted before)
       (stays-dark s (accepted before) (two-red (accepted before) (λ k. eqb-false _ 2 d (last-is before ∙ k)))
-      (condition-in s (accepted before) ∙ ⊎-elim (λ b. rw b) (λ f. rw (table-unmet (s ∷ accepted before) positive-entries windows f) (and-false (inBand s))) why))
+      (condition-in s (accepted before) ∙ ⊎-elim (λ b. rw b) (λ f. rw (table-unmet (s ∷ accepted before) positive-shears windows f) (and-false (inBand s))) why))
       (sym alert-is ∙ two))
     where
       and-false : (b : Bool) → (b && false) ≡ false

@@ -9,9 +9,10 @@ use borrow.Author.Tests.{lt-ltb, le-ltb, lt-leb, ne-eqb}
 use lib.Dec.{ltb, leb, eqb, lit≤}
 use lib.IntN.{ℤ, pos}
 use native.Mathlib.Decide.{decLt}
+use Rattle.rounding.specs.Cut.{cut}
 use Rattle.unit.specs.Choice.{same, smaller, anyOf}
 use Rattle.unit.specs.Claims.{HoldsList, EnterHolds, shows}
-use Rattle.unit.specs.Rules.{change, held, entry, entries, windows, metUp, metDown, inBand, condition, redCondition, amberCondition, litFor, redFor, redLit, redComesOn, amberFor, amberLit, modeChange, voiceFor, cycle, voice, counted, cap, towards, Guidance, off, on, guided, guidanceBy, guidance, isOn, commandOf, inside, band}
+use Rattle.unit.specs.Rules.{change, held, entryLimit, entry, entries, windows, metUp, metDown, inBand, condition, redCondition, amberCondition, litFor, redFor, redLit, redComesOn, amberFor, amberLit, modeChange, voiceFor, cycle, voice, counted, cap, towards, Guidance, off, on, guided, guidanceBy, guidance, isOn, commandOf, inside, band}
 use Rattle.unit.specs.Steps.{beside, sumsOf, sumList, reached, someReached, metOf, shearOf, entryOf, coreWith, windowsOf, lampNext, unlessLit, lampsOf, changedOf, keptOf, voiceNext, voiceOf, noGuide, startedOf, continuedOf, guideNext, guideOf, pitchOf, alertOf, shownOf, answerOf, shownBy, acceptOf}
 use Rattle.unit.specs.declared.Answer.{Answer}
 use Rattle.unit.specs.declared.Core.{Core}
@@ -66,7 +67,7 @@ shear-follows s (last ∷ l) p = refl
 
 pub entry-follows : (s : Sample) (l : List Sample) (p : ℕ) → entryOf (coreOf p l) s ≡ entry s l
 unfolding entryOf entry
-entry-follows s l p = shear-follows s l p
+entry-follows s l p = ap (cut entryLimit) (shear-follows s l p)
 
 -- ════ Counters ════
 

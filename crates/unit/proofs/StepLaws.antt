@@ -3,7 +3,8 @@ use mathlib.Core.List.{List}
 use mathlib.Core.Path.{_≡_, ap}
 use borrow.Author.Tests.{eq-eqb}
 use lib.IntN.{ℤ}
-use Rattle.unit.specs.Rules.{refusal}
+use Rattle.rounding.specs.Cut.{cut}
+use Rattle.unit.specs.Rules.{refusal, entryLimit}
 use Rattle.unit.specs.Steps.{beside, shearOf, entryOf, coreWith, windowsOf, lampsOf, voiceOf, guideOf, pitchOf, answerOf, shownBy, acceptOf, passes, refusalOf, offerOf, PlainPromise, GuideValid, Valid, InRange}
 use Rattle.unit.specs.declared.Answer.{Answer}
 use Rattle.unit.specs.declared.Core.{Core}
@@ -33,11 +34,11 @@ unfolding windowsOf coreWith lampsOf voiceOf guideOf
 guide-kept t s x height w l v h = rw (v, l, one-core w) (h .guide)
 
 -- the methods one after another are the step
-pub chain : (t : State) (s : Sample) {x : ℤ} {held : List ℤ} {entered lit spoken end : Core} {a : Answer}
-    → x ≡ shearOf (t .core) s → beside held entered ≡ windowsOf t s x → lit ≡ lampsOf entered (s .height) → spoken ≡ voiceOf lit s → end ≡ pitchOf spoken s → a ≡ answerOf end x
+pub chain : (t : State) (s : Sample) {x entry : ℤ} {held : List ℤ} {entered lit spoken end : Core} {a : Answer}
+    → x ≡ shearOf (t .core) s → entry ≡ cut entryLimit x → beside held entered ≡ windowsOf t s entry → lit ≡ lampsOf entered (s .height) → spoken ≡ voiceOf lit s → end ≡ pitchOf spoken s → a ≡ answerOf end x
     → _≡_ {A = Offered} (record { answer = a; state = beside held end }) (acceptOf t s)
 unfolding acceptOf entryOf shownBy
-chain t s e w l v p a = rw (a, p, v, l, one-core w, one-ring w, e)
+chain t s e c w l v p a = rw (a, p, v, l, one-core w, one-ring w, c, e)
 
 -- what is accepted keeps the promise of the plain form
 pub promised : (t : State) (s : Sample) {a : Answer} {u : State} → refusalOf t s ≡ 0 → _≡_ {A = Offered} (record { answer = a; state = u }) (acceptOf t s)

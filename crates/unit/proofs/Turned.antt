@@ -7,7 +7,9 @@ use borrow.Author.Tests.{eq-eqb, lt-ltb}
 use lib.Dec.{eqb}
 use lib.IntN.{ℤ}
 use lib.ListN.{take, length-set}
+use Rattle.rounding.specs.Cut.{cut}
 use Rattle.unit.specs.Claims.{placed, Turned, TurnedAlike}
+use Rattle.unit.specs.Rules.{entryLimit}
 use Rattle.unit.specs.Steps.{beside, readFrom, backOf, movedSums, shearOf, entryOf, coreWith, windowsOf, lampsOf, voiceOf, guideOf, pitchOf, answerOf, shownBy, acceptOf, heldFits, countersFit, lastFits, ringFits, passes, refusedOf, refusalOf, offerOf}
 use Rattle.unit.specs.declared.Core.{Core}
 use Rattle.unit.specs.declared.Sample.{Sample}
@@ -72,7 +74,7 @@ module _ (t u : State) (s : Sample) (h : Turned t u) where
 
   entry-alike : entryOf (t .core) s ≡ entryOf (u .core) s
   unfolding entryOf
-  entry-alike = shear-alike
+  entry-alike = ap (cut entryLimit) shear-alike
 
   -- the windows filled by one entry
   module _ (x : ℤ) where

@@ -8,6 +8,7 @@ use lib.Dec.{ltb, leb, eqb}
 use lib.IntN.{ℤ, pos, negℤ, natAbs, _+ℤ_, _-ℤ_, _*ℤ_}
 use lib.ListN.{take, replicate}
 use lib.Signed.{leZ, ltZ}
+use Rattle.rounding.specs.Cut.{cut, cutF}
 use Rattle.rounding.specs.Fraction.{Fraction, _over_, _-F_, zeroF, sumF, timesF, divideF, roundF, sumℤ}
 use Rattle.unit.specs.Choice.{neg, firstOf, within, same, smaller, larger, anyOf}
 use Rattle.unit.specs.declared.Sample.{Sample}
@@ -99,13 +100,17 @@ held s before = heldShear (change s before) (s .vertical) (s .airspeed)
 unfoldable pub exact : Sample → List Sample → Fraction
 exact s before = exactShear (change s before) (s .vertical) (s .airspeed)
 
--- what a sample enters into the windows: "A window is the last that many held shears, this sample's included"
-unfoldable pub entry : Sample → List Sample → ℤ
-entry s before = held s before
+-- "the highest instantaneous value the test rows allow (0.2700 plus 0.075)" (02, A1), as held
+abbrev pub entryLimit : ℕ
+entryLimit = 34500
 
--- and into the exact averages: "Each accepted sample enters its exact shear: the formula above, unrounded" (01, "The list in demand 3")
+-- what a sample enters into the windows: "The held shear is cut to between -34,500 and 34,500 before it enters them" (02, A1)
+unfoldable pub entry : Sample → List Sample → ℤ
+entry s before = cut entryLimit (held s before)
+
+-- and into the exact averages: "exact shears cut at plus and minus 0.34500" (02, A1)
 unfoldable pub exactEntry : Sample → List Sample → Fraction
-exactEntry s before = exact s before
+exactEntry s before = cutF (pos entryLimit over 100000) (exact s before)
 
 -- what the samples of a list have entered, the newest first
 unfoldable pub entries {ℓ} : {A : Type ℓ} → (Sample → List Sample → A) → List Sample → List A

@@ -8,8 +8,9 @@ use lib.Dec.{ltb, leb, eqb}
 use lib.IntN.{ℤ, pos, negℤ, natAbs, _+ℤ_, _-ℤ_}
 use lib.ListN.{length, getD, set, take, drop, replicate}
 use lib.Signed.{leZ, _≤ℤ_}
+use Rattle.rounding.specs.Cut.{cut}
 use Rattle.unit.specs.Choice.{neg, firstOf, within, same, smaller, every}
-use Rattle.unit.specs.Rules.{ranges, inside, refusal, band, heldShear, Window, windows, windowSum, limit, cycle, cap, towards, counted}
+use Rattle.unit.specs.Rules.{ranges, inside, refusal, band, heldShear, entryLimit, Window, windows, windowSum, limit, cycle, cap, towards, counted}
 use Rattle.unit.specs.declared.Answer.{Answer}
 use Rattle.unit.specs.declared.Core.{Core}
 use Rattle.unit.specs.declared.Offered.{Offered}
@@ -101,9 +102,9 @@ metOf up s = someReached up windows (sumList s)
 unfoldable pub shearOf : Core → Sample → ℤ
 shearOf c s = heldShear (cond (ltb 0 (c .seen)) (s .along -ℤ c .along) (pos 0)) (s .vertical) (s .airspeed)
 
--- what the sample enters into the windows: its held shear
+-- what the sample enters into the windows: its held shear, cut
 unfoldable pub entryOf : Core → Sample → ℤ
-entryOf c s = shearOf c s
+entryOf c s = cut entryLimit (shearOf c s)
 
 -- the core with new sums, a new place and the sample's along wind
 unfoldable pub coreWith : Sums → ℕ → Sample → Core → Core

@@ -52,7 +52,7 @@ pub struct Core {
     pub place: u16,
 }
 
-// The unit's state: the last two hundred entries as a ring, the newest at the core's place and each older one a place on, round; and the core.
+// The unit's state: the last two hundred entries, which are held shears as they were cut, as a ring, the newest at the core's place and each older one a place on, round; and the core.
 #[repr(C)]
 pub struct State {
     pub held: [i32; 200],
@@ -201,7 +201,8 @@ impl Core {
         ensures { λ r. ⌜ PlainPromise (beside (now (held .entry)) self) s (r .answer) (beside (now (held .exit)) (r .core)) ⌝ }
     {
         let x = self.shear(s);
-        let filled = self.entered(held, s, x);
+        let entry = windows::entry(x);
+        let filled = self.entered(held, s, entry);
         let lit = filled.lamps(s.height);
         let spoken = lit.voice(s);
         let end = spoken.pitch(s);
@@ -267,7 +268,8 @@ impl State {
     {
         let before = self.core;
         let x = before.shear(s);
-        let full = self.windows(s, x);
+        let entry = windows::entry(x);
+        let full = self.windows(s, entry);
         let lit = full.lamps(s.height);
         let spoken = lit.voice(s);
         let end = spoken.pitch(s);

@@ -4,9 +4,10 @@ ghost use mathlib.Core.Bool.{_||_};
 ghost use Prim.Native.Nat.{_*_, _≤_, _<_};
 ghost use lib.IntN.{natAbs};
 ghost use lib.ListN.{length, set, take};
+ghost use Rattle.rounding.specs.Cut.{cut};
 ghost use Rattle.rounding.specs.Fraction.{sumℤ};
 ghost use Rattle.unit.specs.Choice.{same};
-ghost use Rattle.unit.specs.Rules.{row};
+ghost use Rattle.unit.specs.Rules.{entryLimit, row};
 ghost use Rattle.unit.specs.Steps.{backOf, onOf, readFrom, movedOf, movedSums, sumsOf, sameSums, SumsWithin, reached, metOf};
 use crate::lamps::both;
 
@@ -19,6 +20,13 @@ pub struct Sums {
     pub s140: i64,
     pub s120: i64,
     pub s100: i64,
+}
+
+// What a held shear enters into the windows: itself, cut to between -34,500 and 34,500 (02, A1).
+pub(crate) fn entry(shear: i32) -> i32
+    ensures { λ r. ⌜ r ≡ cut entryLimit shear ⌝ }
+{
+    rounding::cut(shear as i64, 34500) as i32
 }
 
 // One place back, round: where the next entry goes.

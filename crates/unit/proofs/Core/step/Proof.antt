@@ -20,7 +20,10 @@ shear-requires : tie.Need-shear-requires
 shear-requires c κs = (asked c .0 .along-le, asked c .1)
 
 entered-requires : tie.Need-entered-requires
-entered-requires c κs = asked (c .before .before) .0 .ring
+entered-requires c κs = asked (c .before .before .before) .0 .ring
+
+entry-requires : tie.Need-entry-requires
+entry-requires c κs = search needs
 
 lamps-requires : tie.Need-lamps-requires
 lamps-requires c κs = search needs
@@ -38,22 +41,25 @@ returns : tie.Need-returns
 returns c =
     let l = c .before .before .before in
     let w = l .before .before in
-    let k = w .before .before .before in
-    let x : SFits w32 (w .before .before .shear .result) = record { sfits = w .before .before .shear .ok } in
+    let n = w .before .before in
+    let k = n .before .before in
+    let x : SFits w32 (n .before .shear .result) = record { sfits = n .before .shear .ok } in
+    let y : SFits w32 (n .entry .result) = record { sfits = n .entry .ok } in
     let h = height k in
+    let entry = simp toZ-ofZ at (n .entry .ensures) in
     let entered = simp toZ-ofZ at (w .entered .ensures) in
     let lit = simp toZ-ofZ at (l .lamps .ensures) in
     let a = simp toZ-ofZ at (c .answer .ensures) in
     promised (before k) (k .args .s) (k .pre)
-    (chain (before k) (k .args .s) (w .before .before .shear .ensures .0) entered lit (c .before .before .voice .ensures) (c .before .pitch .ensures) a)
+    (chain (before k) (k .args .s) (n .before .shear .ensures .0) entry entered lit (c .before .before .voice .ensures) (c .before .pitch .ensures) a)
 
 pitch-requires : tie.Need-pitch-requires
 pitch-requires c κs =
     let w = c .before .before .before in
-    let k = w .before .before .before in
+    let k = w .before .before .before .before in
     (guide-kept (before k) (k .args .s) _ _ (w .entered .ensures) (c .before .lamps .ensures) (c .voice .ensures) (asked k .0), asked k .1)
 
 pub step-spec : {M : Type 1} → statement M
 step-spec =
     tie.close
-    (tie.spec shear-requires entered-requires lamps-requires voice-requires pitch-requires answer-requires returns)
+    (tie.spec shear-requires entry-requires entered-requires lamps-requires voice-requires pitch-requires answer-requires returns)

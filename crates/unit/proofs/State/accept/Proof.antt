@@ -14,8 +14,11 @@ use Rattle.unit.proofs.State.accept.Tie as tie
 shear-requires : tie.Need-shear-requires
 shear-requires c κs = (c .before .pre .0 .along-le, c .before .pre .1)
 
+entry-requires : tie.Need-entry-requires
+entry-requires c κs = search needs
+
 windows-requires : tie.Need-windows-requires
-windows-requires c κs = c .before .before .pre .0 .ring
+windows-requires c κs = c .before .before .before .pre .0 .ring
 
 lamps-requires : tie.Need-lamps-requires
 lamps-requires c κs = search needs
@@ -26,7 +29,7 @@ voice-requires c κs = search needs
 pitch-requires : tie.Need-pitch-requires
 pitch-requires c κs =
     let w = c .before .before .before in
-    let k = w .before .before .before in
+    let k = w .before .before .before .before in
     (guide-kept (k .args .self) (k .args .s) _ _ (w .windows .ensures) (one-core (c .before .lamps .ensures)) (one-core (c .voice .ensures)) (k .pre .0), k .pre .1)
 
 answer-requires : tie.Need-answer-requires
@@ -40,22 +43,26 @@ returns c =
     let p = c .before .before in
     let l = p .before .before in
     let w = l .before .before in
-    let k = w .before .before .before in
-    let x : SFits w32 (w .before .shear .result) = record { sfits = w .before .shear .ok } in
+    let n = w .before in
+    let k = n .before .before .before in
+    let x : SFits w32 (n .before .shear .result) = record { sfits = n .before .shear .ok } in
+    let y : SFits w32 (n .entry .result) = record { sfits = n .entry .ok } in
     let h = height k in
+    let entry = simp toZ-ofZ at (n .entry .ensures) in
     let entered = simp toZ-ofZ at (w .windows .ensures) in
     let lit = simp toZ-ofZ at (l .lamps .ensures) in
     let spoken = p .before .voice .ensures in
     let end = p .pitch .ensures in
     let a = simp toZ-ofZ at (c .answer .ensures) in
     ap (λ (held : List ℤ). record { answer = c .answer .result; state = beside held (p .pitch .result .core) }) (one-ring end ∙ one-ring spoken ∙ one-ring lit)
-    ∙ chain (k .args .self) (k .args .s) (w .before .shear .ensures .0) entered (one-core lit) (one-core spoken) (one-core end) a
+    ∙ chain (k .args .self) (k .args .s) (n .before .shear .ensures .0) entry entered (one-core lit) (one-core spoken) (one-core end) a
 
 pub accept-spec : {M : Type 1} → statement M
 accept-spec =
     tie.close
     (tie.spec
     shear-requires
+    entry-requires
     windows-requires
     lamps-requires
     voice-requires

@@ -1,0 +1,61 @@
+-- `rounding::cut` meets its contract: the number and its bounds as they are read back are themselves, and the tests are the definition's.
+use mathlib.Core.Path.{_≡_, sym, _∙_}
+use mathlib.Core.Bool.{true, false}
+use Prim.Native.Nat.{ℕ, _≤_, _<_, _^_}
+use native.Mathlib.Omega.{arith}
+use borrow.Author.Needs.{needs}
+use lib.Dec.{lit<}
+use lib.IntN.{ℤ, pos, negℤ, _-ℤ_, +ℤ-idl}
+use lib.Signed.{ltZ}
+use mir.Syntax.{w32, w64}
+use mir.Val.{toZ, ofZ, Fits}
+use mir.Facts.{toZ-ofZ}
+use Rattle.rounding.specs.Cut.{cut}
+use Rattle.rounding.proofs.Fits.{Holds, lit, kept, minus, sfits, castS}
+use Rattle.rounding.proofs.cut.Statement.{statement}
+use Rattle.rounding.proofs.cut.Tie as tie
+
+cast-bound : tie.Need-cast-bound
+cast-bound c = search needs
+
+-- the upper bound and the lower one, as they are worked out
+upper : (k : tie.Start) → Holds (toZ w64 (k .args .most)) (pos (k .args .most)) (2 ^ 32)
+upper k = let f : Fits w32 (k .args .most) = search needs in castS w64 (omega (arith, f .fits)) (lit< tt)
+
+lower : (k : tie.Start) → Holds (pos 0 -ℤ toZ w64 (k .args .most)) (pos 0 -ℤ pos (k .args .most)) (2 ^ 32)
+lower k = minus (lit 0) (upper k)
+
+least : (k : tie.Start) → toZ w64 (ofZ w64 (pos 0 -ℤ toZ w64 (k .args .most))) ≡ negℤ (pos (k .args .most))
+least k = kept w64 (lower k) (lit< tt) .is ∙ +ℤ-idl (negℤ (pos (k .args .most)))
+
+sub-if1 : tie.Need-sub-if1
+sub-if1 c = sfits w64 (lower c) (lit< tt)
+
+sub-result : tie.Need-sub-result
+sub-result c = sfits w64 (lower (c .before)) (lit< tt)
+
+returns : tie.Need-returns
+unfolding cut
+returns c =
+    let k = c .before in
+    let e : ltZ (k .args .x) (negℤ (pos (k .args .most))) ≡ true = rw (toZ-ofZ (k .fits .x), least k) at (c .if1 .taken) in
+    least k ∙ rw e
+
+returns-2 : tie.Need-returns-2
+unfolding cut
+returns-2 c =
+    let k = c .before .before in
+    let e : ltZ (k .args .x) (negℤ (pos (k .args .most))) ≡ false = rw (toZ-ofZ (k .fits .x), least k) at (c .before .if1 .left) in
+    let f : ltZ (pos (k .args .most)) (k .args .x) ≡ true = rw (toZ-ofZ (k .fits .x), upper k .is) at (c .if2 .taken) in
+    upper k .is ∙ rw (e, f)
+
+returns-3 : tie.Need-returns-3
+unfolding cut
+returns-3 c =
+    let k = c .before .before in
+    let e : ltZ (k .args .x) (negℤ (pos (k .args .most))) ≡ false = rw (toZ-ofZ (k .fits .x), least k) at (c .before .if1 .left) in
+    let f : ltZ (pos (k .args .most)) (k .args .x) ≡ false = rw (toZ-ofZ (k .fits .x), upper k .is) at (c .if2 .left) in
+    toZ-ofZ (k .fits .x) ∙ rw (e, f)
+
+pub cut-spec : {M : Type 1} → statement M
+cut-spec = tie.close (tie.spec cast-bound sub-if1 sub-result returns returns-2 returns-3)
