@@ -3,7 +3,6 @@ pub mod Signed16
 pub mod Patterns
 pub mod RoundTrip
 pub mod Headers
-pub mod Cut
 pub mod Fields
 pub mod Starred
 pub mod RecordLaws

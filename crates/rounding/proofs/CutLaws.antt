@@ -103,15 +103,13 @@ within-cut k lo hi x h l = go (ofSize 1 {k = natAbs lo} (omega arith) (any lo)) 
         → Side k x → (leZ lo (cut k x) ≡ leZ lo x) × (leZ (cut k x) hi ≡ leZ x hi)
     go a b (low s) =
         let t = ofLe s (any x) (negD (nat k)) in
-        rw (cut-low k x s)
-        (
+        rw (cut-low k x s) (
           lt-leZ (ltD (negD (nat k)) (any lo) (omega (arith, h, a .1))) ∙ sym (lt-leZ (ltD (any x) (any lo) (omega (arith, h, a .1, t)))),
           le-leZ (leD (negD (nat k)) (any hi) (omega (arith, l, b .1))) ∙ sym (le-leZ (leD (any x) (any hi) (omega (arith, l, b .1, t)))),
         )
     go a b (high s) =
         let t = ofLe s (nat k) (any x) in
-        rw (cut-high k x s)
-        (
+        rw (cut-high k x s) (
           le-leZ (leD (any lo) (nat k) (omega (arith, h, a .0))) ∙ sym (le-leZ (leD (any lo) (any x) (omega (arith, h, a .0, t)))),
           lt-leZ (ltD (any hi) (nat k) (omega (arith, l, b .0))) ∙ sym (lt-leZ (ltD (any hi) (any x) (omega (arith, l, b .0, t)))),
         )
@@ -164,7 +162,7 @@ rounds-then-cuts k d f p q = go (ltF f (negF b)) (ltF b f) refl refl
     b = pos (k * d) over d
 
     whole : roundF b ≡ pos k
-    whole = round-whole k d p
+    whole = round-whole (pos k) d p
 
     turned : roundF (negF b) ≡ neg k
     turned = round-neg (pos (k * d)) d ∙ ap negℤ whole

@@ -107,9 +107,10 @@ round-scale (pos n) d k p = ap pos (nearest-scale n d k p)
 round-scale (negsuc n) d k p =
     round-neg (pos (suc n * k)) (d * k) ∙ ap (λ (m : ℕ). negℤ (pos m)) (nearest-scale (suc n) d k p)
 
-pub round-whole : (k d : ℕ) → 0 < d → roundAway (pos (k * d)) d ≡ pos k
+pub round-whole : (x : ℤ) (d : ℕ) → 0 < d → roundAway (x *ℤ pos d) d ≡ x
 unfolding roundAway
-round-whole k d p = ap pos (nearest-whole k d p)
+round-whole (pos n) d p = ap pos (nearest-whole n d p)
+round-whole (negsuc n) d p = round-neg (pos (suc n * d)) d ∙ ap (λ (m : ℕ). negℤ (pos m)) (nearest-whole (suc n) d p)
 
 pub rounds-in-order : RoundsInOrder
 unfolding RoundsInOrder roundAway
