@@ -1,33 +1,35 @@
 /* The proved windshear unit for C programs. Link target/staticlib/libhost.a, which `rt staticlib host` writes. It is for x86-64 Linux only.
  *
  * Every function is defined for every value of its arguments: what is out of range is refused by a number. A pointer must not
- * be NULL, not even where the length is 0, and must be valid for the size given. Two buffers must not overlap, and no other
- * thread may use them meanwhile. A lent state must be aligned as C aligns it (8 bytes); a file or a buffer needs no alignment.
+ * be NULL, not even where the length is 0, and must be valid for the size given. malloc(0) and the data() of an empty
+ * std::vector may be NULL: make such a buffer one byte longer than the length that you pass. Two buffers must not overlap, and
+ * no other thread may use them meanwhile. A lent state must be aligned as C aligns it (8 bytes); a file or a buffer needs no
+ * alignment.
  *
  * WARNING: an answer to a refused sample has alert 0, which says nothing of the lamps: they stay as they were. A host that
  * shows `alert` without a look at `refusal` would darken a lit lamp.
  *
- * Twenty samples make a second. A program that lights the red lamp, and keeps it lit at a sample that is refused:
+ * Twenty samples make a second. A program that lights the red lamp by five seconds at 140 kt in a downdraft of 29.4 kt, a shear
+ * of 0.2100, and keeps it lit at a sample that is refused:
  *
  *    #include <stdio.h>
  *    #include "windshear.h"
  *
  *    int main(void) {
- *        static const int along[3] = {0, 2000, 30000};
  *        struct windshear_state state = windshear_fresh();
- *        struct windshear_sample sample = {.airspeed = 14000, .height = 400, .pitch = 5000,
+ *        struct windshear_sample sample = {.vertical = -2940, .airspeed = 14000, .height = 400, .pitch = 5000,
  *                                          .stall = 20000, .climb = -700, .vs1 = 10000, .mode = 1};
  *        int lamp = WINDSHEAR_ALERT_NONE, refused = 0;
- *        for (int i = 0; i < 3; i++) {
- *            sample.along = along[i];
+ *        for (int i = 0; i < 102; i++) {
+ *            sample.along = i == 100 ? 30000 : 0;
  *            struct windshear_answer answer = windshear_offer_lent(&state, sample);
  *            if (answer.refusal != WINDSHEAR_ACCEPTED) {
  *                refused++;
- *                printf("refused by %d: the lamp stays %d\n", answer.refusal, lamp);
+ *                printf("sample %d: refused by %d, the lamp stays %d\n", i, answer.refusal, lamp);
  *                continue;
  *            }
+ *            if (answer.alert != lamp) printf("sample %d: lamp %d command %d\n", i, answer.alert, (int)answer.command);
  *            lamp = answer.alert;
- *            printf("lamp %d command %d\n", lamp, (int)answer.command);
  *        }
  *        return lamp == WINDSHEAR_ALERT_RED && refused == 1 ? 0 : 1;
  *    }
@@ -48,6 +50,9 @@ extern "C" {
 #define WINDSHEAR_MAX_RECORDS 2600
 /* The bytes that windshear_run writes for each record. A struct windshear_answer is another thing, and larger. */
 #define WINDSHEAR_ANSWER_SIZE 10
+
+/* The most of a held shear that enters the windows, either way, in hundred-thousandths. */
+#define WINDSHEAR_ENTRY_LIMIT 34500
 
 /* The refusal numbers, in the order tested: what `refusal` holds, and what a writer answers. */
 enum windshear_refusal {
@@ -116,16 +121,19 @@ struct windshear_core {
 
 /* The state that the host keeps and lends. Memory that is all zeros is the fresh state.
  *
- * Its entries are the last 200 held shears, 0 before the first sample. They are a ring: the newest stands at `core.place`, each
- * older one a place further on, and after place 199 comes place 0. The next entry is written one place back, over the oldest,
- * and is the newest then: from the fresh state the first one goes to place 199.
+ * Its entries are the held shears of the last 200 accepted samples, 0 before the first. The unit cuts each to between
+ * -WINDSHEAR_ENTRY_LIMIT and WINDSHEAR_ENTRY_LIMIT as it enters, so that one sharp gust by itself lights no lamp; an answer's
+ * `shear` is not cut. They are a ring: the newest stands at `core.place`, each older one a place further on, and after place 199
+ * comes place 0. The next entry is written one place back, over the oldest, and is the newest then: from the fresh state the
+ * first one goes to place 199.
  *
  * It is refused by 8 where an entry is beyond 50,000,000 either way, a counter is above 600, the command, the last along wind,
  * the last mode or the place is outside its range above, or a sum is not that of its window's entries.
  *
  * A host may build a state of its own: the entries, here `entry`, the newest first, from any place below 200 on, each sum anew,
- * and the rest of the core as it is described above. `last` is the sample that entered the newest; were `seen` left at 0, the
- * next sample would be taken as the first, with no change of along wind.
+ * and the rest of the core as it is described above. To have the unit's own history, the host cuts each held shear as the unit
+ * does: an entry that a state holds is summed as it stands, up to 50,000,000. `last` is the sample that entered the newest; were
+ * `seen` left at 0, the next sample would be taken as the first, with no change of along wind.
  *
  *    struct windshear_state state = windshear_fresh();
  *    state.core.seen = 1;
@@ -145,7 +153,7 @@ struct windshear_core {
  * There is no padding, so memcmp compares two states as well. Two that differ only in how far the ring is turned, and so in
  * `place` and in the order of `held`, stand for the same history: every sample gets the same answer from both. */
 struct windshear_state {
-    int32_t held[200]; /* the ring: held shears in hundred-thousandths, -50,000,000 to 50,000,000 */
+    int32_t held[200]; /* the ring: entries in hundred-thousandths, -50,000,000 to 50,000,000 */
     struct windshear_core core;
 };
 
@@ -156,7 +164,7 @@ struct windshear_answer {
     uint16_t voice;    /* cycle 1, 2 or 3; 0 for none */
     uint16_t guidance; /* 1 where the command is shown */
     int32_t command;   /* 0.001 degree */
-    int32_t shear;     /* held shear, hundred-thousandths */
+    int32_t shear;     /* held shear, hundred-thousandths, not cut */
 };
 
 struct windshear_offered {
@@ -218,11 +226,17 @@ struct windshear_answer windshear_offer_lent(struct windshear_state *state, stru
 struct windshear_offered windshear_offer(struct windshear_state state, struct windshear_sample sample);
 
 /* A whole run file. The answers are WINDSHEAR_ANSWER_SIZE bytes a record: alert, voice, the command in 2 (signed), the held
- * shear in 4 (signed), guidance, a zero; the lowest byte first. Refused by 1 to 7 or 11 to 20, the buffer is untouched. */
+ * shear in 4 (signed, not cut), guidance, a zero; the lowest byte first. Refused by 1 to 7 or 11 to 20, the buffer is untouched.
+ * For length 0 pass any pointer that is not NULL. A run of count 0 is good, and its answers have length 0:
+ *
+ *    uint8_t none = 0;
+ *    struct windshear_outcome outcome = windshear_run(file, WINDSHEAR_HEADER_SIZE, &none, 0);
+ */
 struct windshear_outcome windshear_run(const uint8_t *file, size_t file_length, uint8_t *answers, size_t answers_length);
 
 /* What windshear_run would answer of the file with an answer buffer of the right length: refused by 1 to 6 or 11 to 20; or
- * refusal 0 and the count, so that the right length is WINDSHEAR_ANSWER_SIZE x count. */
+ * refusal 0 and the count, so that the right length is WINDSHEAR_ANSWER_SIZE x count. For length 0 pass any pointer that is
+ * not NULL; the refusal is 1. */
 struct windshear_file_test windshear_test_file(const uint8_t *file, size_t length);
 
 /* The record at a place, from 0, whatever the file holds and whatever the place is:
@@ -230,11 +244,12 @@ struct windshear_file_test windshear_test_file(const uint8_t *file, size_t lengt
  *    refusal 0, found 0: the file has no record there: place is not below its count;
  *    refusal 11 to 20, found 0: that record is refused (others of the file may be good);
  *    refusal 0, found 1: the record, though others of the file may be refused.
- * Writing a record that was found gives its bytes again, and reading one that was written gives its fields again. */
+ * Writing a record that was found gives its bytes again, and reading one that was written gives its fields again.
+ * For length 0 pass any pointer that is not NULL; the refusal is 1. */
 struct windshear_reading windshear_read_record(const uint8_t *file, size_t length, size_t place);
 
 /* A run file's header, WINDSHEAR_HEADER_SIZE bytes (refused by 5 or 7), and a record, WINDSHEAR_RECORD_SIZE bytes (refused by
- * 7 or 11 to 20); refused, the buffer is untouched. */
+ * 7 or 11 to 20); refused, the buffer is untouched. For length 0 pass any pointer that is not NULL; it is refused. */
 uint16_t windshear_write_header(uint32_t count, uint8_t *buffer, size_t length);
 uint16_t windshear_write_record(struct windshear_record record, uint8_t *buffer, size_t length);
 

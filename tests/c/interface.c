@@ -1,4 +1,5 @@
-/* The C interface: the layout of every struct against the library, what refusals leave behind, and records read back. */
+/* The C interface: the layout of every struct against the library, what refusals leave behind, what enters the windows, runs against lone samples,
+ * and records read back. */
 #include <stdio.h>
 #include <string.h>
 #include "windshear.h"
@@ -36,6 +37,41 @@ static int same_answer(struct windshear_answer a, struct windshear_answer b) {
 
 static const struct windshear_sample calm = {.airspeed = 14000, .height = 400, .pitch = 5000, .stall = 20000, .climb = -700, .vs1 = 10000, .mode = 1};
 static const struct windshear_answer nothing = {0, 0, 0, 0, 0, 0};
+
+/* What enters the windows of a held shear. */
+static int32_t cut(int32_t shear) {
+    return shear > WINDSHEAR_ENTRY_LIMIT ? WINDSHEAR_ENTRY_LIMIT : shear < -WINDSHEAR_ENTRY_LIMIT ? -WINDSHEAR_ENTRY_LIMIT : shear;
+}
+
+/* Sample i of a list that lights both lamps: seven seconds in a downdraft, ten in an updraft, and so on, 29.4 kt at 140 kt, with a gust of 20 kt
+ * every 29 samples, up and down in turn; now and then above the band or cancelled, and the mode changes. */
+static struct windshear_sample exposed(int i) {
+    struct windshear_sample s = calm;
+    s.along = 2000 * (i / 29 % 2);
+    s.vertical = i % 340 < 140 ? -2940 : 2940;
+    s.height = i % 40 ? 400 : 1200;
+    s.mode = i / 170 % 2;
+    s.deselect = i % 290 == 289;
+    return s;
+}
+
+/* How many answers of a list show each thing. */
+static struct lit { int red, amber, voice, guidance, gust; } lit, in_all;
+
+static void tally(struct windshear_answer a) {
+    lit.red += a.alert == WINDSHEAR_ALERT_RED;
+    lit.amber += a.alert == WINDSHEAR_ALERT_AMBER;
+    lit.voice += a.voice != 0;
+    lit.guidance += a.guidance;
+    lit.gust += cut(a.shear) != a.shear;
+}
+
+/* A list that lit nothing would test little. */
+static void all_lit(void) {
+    check(lit.red && lit.amber && lit.voice && lit.guidance && lit.gust, "the list has red, amber, voice, guidance and gusts");
+    in_all.red += lit.red, in_all.amber += lit.amber, in_all.voice += lit.voice, in_all.guidance += lit.guidance, in_all.gust += lit.gust;
+    memset(&lit, 0, sizeof lit);
+}
 
 /* Each field of a sample, one out of range at each end: its own number, so its own place. */
 static void sample_fields(void) {
@@ -127,21 +163,19 @@ static void state_fields(void) {
     }
 }
 
-/* A ring that is built at any place from the shears answered: the answers are those of the state that the samples left. */
+/* A ring that is built at any place from the shears answered, each cut: the answers are those of the state that the samples left. */
 static void host_built(void) {
     static struct windshear_state rings[200];
     struct windshear_state state = windshear_fresh();
     int32_t entry[200] = {0};
     for (int i = 0; i < 600; i++) {
-        struct windshear_sample s = calm;
-        s.along = 1200 * (i * i % 11) - 900 * (i % 13);
-        s.vertical = 37 * (i % 29) - 500;
-        s.height = i % 40 ? 400 : 1200;
-        s.mode = i / 170 % 2;
+        struct windshear_sample s = exposed(i);
+        s.along += i * i % 11 - i % 7;
         struct windshear_answer a = windshear_offer_lent(&state, s);
         check(a.refusal == WINDSHEAR_ACCEPTED, "a sample of the list");
+        if (i > 300) tally(a);
         memmove(entry + 1, entry, sizeof entry - sizeof *entry);
-        entry[0] = a.shear;
+        entry[0] = cut(a.shear);
         for (int place = 0; place < 200 && i >= 300; place++) {
             struct windshear_state *ring = &rings[place];
             if (i > 300) check(same_answer(windshear_offer_lent(ring, s), a), "a built ring answers as the unit's own");
@@ -155,6 +189,31 @@ static void host_built(void) {
             check(same_state(ring, &anew), "and is left with the same entries and sums");
         }
     }
+    all_lit();
+}
+
+/* Held shears at the cut and one beside it, either way: the answer shows each as it is, and it enters cut. */
+static void entries_cut(void) {
+    static const struct { int32_t vertical, airspeed, shear; } at[] = {{-10000, 28986, 34499}, {-6900, 20000, 34500}, {-10000, 28985, 34501}, {-10000, 6000, 166667}};
+    for (size_t k = 0; k < sizeof at / sizeof *at; k++)
+        for (int sign = -1; sign < 2; sign += 2) {
+            struct windshear_state state = windshear_fresh();
+            struct windshear_sample s = calm;
+            s.vertical = sign * at[k].vertical;
+            s.airspeed = at[k].airspeed;
+            check(windshear_offer_lent(&state, s).shear == sign * at[k].shear, "an answer's shear is not cut");
+            check(state.held[199] == cut(sign * at[k].shear) && state.core.sums.s200 == state.held[199] && state.core.sums.s100 == state.held[199], "its entry is");
+        }
+    /* a gust in a state that a host builds is summed as it stands; one that the unit entered would light nothing */
+    for (int sign = -1; sign < 2; sign += 2) {
+        int32_t entry[200] = {0};
+        entry[57] = sign * 2098349;
+        struct windshear_state state = built(entry, 23, calm);
+        check(windshear_offer_lent(&state, calm).alert == (sign > 0 ? WINDSHEAR_ALERT_RED : WINDSHEAR_ALERT_AMBER), "a host's entry is not cut");
+        entry[57] = cut(entry[57]);
+        state = built(entry, 23, calm);
+        check(windshear_offer_lent(&state, calm).alert == WINDSHEAR_ALERT_NONE, "cut by the host, it lights nothing");
+    }
 }
 
 /* A state of zero bytes is the fresh one. */
@@ -163,36 +222,67 @@ static void zeroed_memory(void) {
     memset(&zeroed, 0, sizeof zeroed);
     check(same_state(&zeroed, &fresh), "zeroed memory is the fresh state");
     for (int i = 0; i < 300; i++) {
-        struct windshear_sample s = calm;
-        s.along = 2000 * (i / 5 % 2);
-        s.height = 400 + 7 * i;
-        s.mode = i / 90 % 2;
+        struct windshear_sample s = exposed(i);
         struct windshear_answer a = windshear_offer_lent(&fresh, s);
+        tally(a);
         check(same_answer(windshear_offer_lent(&zeroed, s), a) && same_state(&zeroed, &fresh), "from zeroed memory as from the fresh state");
-        check(fresh.core.place == (399 - i) % 200 && fresh.held[fresh.core.place] == a.shear, "the newest entry stands at the place");
+        check(fresh.core.place == (399 - i) % 200 && fresh.held[fresh.core.place] == cut(a.shear), "the newest entry stands at the place");
     }
+    all_lit();
 }
 
 /* A refused sample while red is lit: the answer is all zeros but for its number, and the lamp is still lit afterwards. */
 static void refused_while_lit(void) {
     struct windshear_state state = windshear_fresh();
     struct windshear_sample s = calm;
-    windshear_offer_lent(&state, s);
-    s.along = 2000;
-    check(windshear_offer_lent(&state, s).alert == WINDSHEAR_ALERT_RED, "red is lit");
+    s.vertical = -2940;
+    for (int i = 0; i < 100; i++)
+        check(windshear_offer_lent(&state, s).alert == (i < 99 ? WINDSHEAR_ALERT_NONE : WINDSHEAR_ALERT_RED), "red is lit by five seconds of 0.2100");
     struct windshear_state before = state;
     struct windshear_answer want = nothing;
     want.refusal = WINDSHEAR_REFUSED_ALONG;
     s.along = 20001;
     check(same_answer(windshear_offer_lent(&state, s), want) && same_state(&state, &before), "a refused answer shows no alert");
-    s.along = 2000;
+    s.along = 0;
     check(windshear_offer_lent(&state, s).alert == WINDSHEAR_ALERT_RED && state.core.red == 2, "and the lamp stayed lit");
 }
 
-/* 01's three records, lent, in the plain form, and as a run file that is read back, from an odd address. */
+/* Whether ten bytes of a run show this answer. */
+static int shows(const uint8_t *ten, struct windshear_answer a) {
+    const int16_t command = (int16_t)(ten[2] + 256 * ten[3]);
+    const uint32_t shear = ten[4] + 256u * ten[5] + 65536u * ten[6] + 16777216u * ten[7];
+    return ten[0] == a.alert && ten[1] == a.voice && command == a.command && (int32_t)shear == a.shear && ten[8] == a.guidance && ten[9] == 0;
+}
+
+/* A run file of a list that lights both lamps: the ten bytes are the lone answers, in both forms. */
+static void run_lit(void) {
+    enum { COUNT = 600 };
+    static uint8_t file[START(COUNT)], answers[COUNT * WINDSHEAR_ANSWER_SIZE];
+    check(windshear_write_header(COUNT, file, WINDSHEAR_HEADER_SIZE) == WINDSHEAR_ACCEPTED, "the header is written");
+    for (int i = 0; i < COUNT; i++) {
+        const struct windshear_sample s = exposed(i);
+        const struct windshear_record r = {(float)s.along / 100, (float)s.vertical / 100, (float)s.airspeed / 100, (int16_t)s.height, (int16_t)s.pitch,
+                                           (int16_t)s.stall, (int16_t)s.climb, (uint16_t)s.vs1, (uint8_t)s.mode, (uint8_t)s.deselect};
+        check(windshear_write_record(r, file + START(i), WINDSHEAR_RECORD_SIZE) == WINDSHEAR_ACCEPTED, "the record is written");
+    }
+    const struct windshear_outcome outcome = windshear_run(file, sizeof file, answers, sizeof answers);
+    check(outcome.refusal == WINDSHEAR_ACCEPTED && outcome.place == 0, "the run is accepted");
+    struct windshear_state lent = windshear_fresh(), plain = lent;
+    for (int i = 0; i < COUNT; i++) {
+        const struct windshear_answer a = windshear_offer_lent(&lent, exposed(i));
+        const struct windshear_offered o = windshear_offer(plain, exposed(i));
+        plain = o.state;
+        tally(a);
+        check(same_answer(o.answer, a) && same_state(&lent, &plain), "both forms agree");
+        check(shows(answers + WINDSHEAR_ANSWER_SIZE * i, a), "a run answers as lone samples");
+    }
+    all_lit();
+}
+
+/* 01's three records, whose gust stays dark: lent, in the plain form, and as a run file that is read back, from an odd address. */
 static void three_records(void) {
     static const float along[3] = {0, 20, 20}, vertical[3] = {0, 0, -10};
-    static const struct windshear_answer want[3] = {{0, 0, 0, 0, 0, 0}, {0, WINDSHEAR_ALERT_RED, 1, 1, 5000, 2098349}, {0, WINDSHEAR_ALERT_RED, 1, 1, 5075, 7143}};
+    static const struct windshear_answer want[3] = {{0, 0, 0, 0, 0, 0}, {0, 0, 0, 0, 0, 2098349}, {0, 0, 0, 0, 0, 7143}};
     struct windshear_state lent = windshear_fresh(), plain = lent;
     _Alignas(8) uint8_t room[1 + START(3)];
     uint8_t *const file = room + 1;
@@ -216,10 +306,7 @@ static void three_records(void) {
     struct windshear_outcome good = windshear_run(file, length, answers, sizeof answers);
     check(good.refusal == WINDSHEAR_ACCEPTED && good.place == 0, "the run is accepted");
     for (int i = 0; i < 3; i++) {
-        const uint8_t *ten = answers + WINDSHEAR_ANSWER_SIZE * i;
-        int16_t command = (int16_t)(ten[2] + 256 * ten[3]);
-        uint32_t shear = ten[4] + 256u * ten[5] + 65536u * ten[6] + 16777216u * ten[7];
-        check(ten[0] == want[i].alert && ten[1] == want[i].voice && command == want[i].command && (int32_t)shear == want[i].shear && ten[8] == want[i].guidance && ten[9] == 0, "01's ten bytes");
+        check(shows(answers + WINDSHEAR_ANSWER_SIZE * i, want[i]), "01's ten bytes");
         struct windshear_reading r = windshear_read_record(file, length, (size_t)i);
         check(r.found == 1 && r.refusal == WINDSHEAR_ACCEPTED && r.record.along == along[i] && r.record.vertical == vertical[i] && r.record.airspeed == 140
               && r.record.height == 400 && r.record.pitch == 5000 && r.record.stall == 20000 && r.record.climb == -700 && r.record.vs1 == 10000
@@ -270,6 +357,30 @@ static void headers(void) {
     }
 }
 
+/* A file or a buffer of length 0, at any address: here a byte that is left as it was. */
+static void lengths_of_zero(void) {
+    uint8_t file[WINDSHEAR_HEADER_SIZE], byte = 0xa5;
+    check(windshear_write_header(0, file, sizeof file) == WINDSHEAR_ACCEPTED, "the header of no records");
+    /* the lines that the header shows */
+#include <none.inc>
+    check(outcome.refusal == WINDSHEAR_ACCEPTED && outcome.place == 0 && none == 0, "a run of count 0 is good");
+    outcome = windshear_run(file, sizeof file, &byte, 0);
+    check(outcome.refusal == WINDSHEAR_ACCEPTED && outcome.place == 0, "and writes nothing");
+    outcome = windshear_run(file, sizeof file, &byte, 1);
+    check(outcome.refusal == WINDSHEAR_REFUSED_BUFFER && outcome.place == 0, "a buffer of 1 is not its buffer");
+    outcome = windshear_run(&byte, 0, &none, 0);
+    check(outcome.refusal == WINDSHEAR_REFUSED_SHORT && outcome.place == 0 && none == 0, "an empty file is refused by 1");
+    const struct windshear_file_test test = windshear_test_file(&byte, 0);
+    check(test.refusal == WINDSHEAR_REFUSED_SHORT && test.place == 0 && test.count == 0, "by its own test");
+    const struct windshear_reading r = windshear_read_record(&byte, 0, 0);
+    check(r.found == 0 && r.refusal == WINDSHEAR_REFUSED_SHORT, "and at a place");
+    check(windshear_write_header(0, &byte, 0) == WINDSHEAR_REFUSED_BUFFER && windshear_write_header(WINDSHEAR_MAX_RECORDS + 1, &byte, 0) == WINDSHEAR_REFUSED_COUNT,
+          "no header is written");
+    const struct windshear_record record = {0, 0, 140, 400, 5000, 20000, -700, 10000, 1, 0};
+    check(windshear_write_record(record, &byte, 0) == WINDSHEAR_REFUSED_BUFFER, "no record is written");
+    check(byte == 0xa5, "the byte is left");
+}
+
 static void writers(void) {
     uint8_t buffer[WINDSHEAR_RECORD_SIZE + 1];
     const size_t shorter = WINDSHEAR_HEADER_SIZE - 1;
@@ -290,11 +401,16 @@ int main(void) {
     sample_fields();
     state_fields();
     host_built();
+    entries_cut();
     zeroed_memory();
     refused_while_lit();
+    run_lit();
     three_records();
     headers();
+    lengths_of_zero();
     writers();
+    printf("answers in lists: red %d, amber %d, with voice %d, with guidance %d, beyond the cut %d\n", in_all.red, in_all.amber, in_all.voice, in_all.guidance,
+           in_all.gust);
     printf("compared %d facts of the C interface\n", checks);
     return wrong != 0;
 }

@@ -1,9 +1,11 @@
-/* The header as C++: 01's three records lent, in the plain form and as a run file that is read back, a ring turned, and a float's hundredths. */
+/* The header as C++: 01's three records lent, in the plain form and as a run file that is read back, a ring turned, both lamps lit by an exposure,
+ * lengths of 0, and a float's hundredths. */
 #include "windshear.h"
 #include <algorithm>
 #include <cstddef>
 #include <cstdint>
 #include <cstdio>
+#include <vector>
 
 static_assert(sizeof(windshear_sums) == 48 && sizeof(windshear_core) == 72 && sizeof(windshear_state) == 872 && sizeof(windshear_offered) == 888, "sizes");
 static_assert(offsetof(windshear_sums, s100) == 40 && offsetof(windshear_core, along) == 48 && offsetof(windshear_core, place) == 70
@@ -38,8 +40,45 @@ static bool unread(const windshear_reading &r, int refusal) {
 /* Where a record starts in a file, from the file's start; after the last, the file's length. */
 static constexpr std::size_t start(std::size_t place) { return WINDSHEAR_HEADER_SIZE + WINDSHEAR_RECORD_SIZE * place; }
 
+/* Five seconds of this vertical wind, 0.01 kt, at 140 kt, lent and as a run: dark up to the last sample, which is answered so. */
+static void exposed(int32_t vertical, const windshear_answer &last) {
+    const int count = 100;
+    windshear_state state = windshear_fresh();
+    std::vector<uint8_t> file(start(count)), answers(count * WINDSHEAR_ANSWER_SIZE);
+    check(windshear_write_header(count, file.data(), WINDSHEAR_HEADER_SIZE) == WINDSHEAR_ACCEPTED, "the header is written");
+    for (int i = 0; i < count; i++) {
+        windshear_answer want{};
+        want.shear = last.shear;
+        if (i == count - 1) want = last;
+        const windshear_sample sample{0, vertical, 14000, 400, 5000, 20000, -700, 10000, 1, 0};
+        check(same(windshear_offer_lent(&state, sample), want), "a lamp is lit by its exposure, and not before");
+        const windshear_record record{0, vertical / 100.0f, 140, 400, 5000, 20000, -700, 10000, 1, 0};
+        check(windshear_write_record(record, file.data() + start(i), WINDSHEAR_RECORD_SIZE) == WINDSHEAR_ACCEPTED, "the record is written");
+    }
+    const windshear_outcome outcome = windshear_run(file.data(), file.size(), answers.data(), answers.size());
+    check(outcome.refusal == WINDSHEAR_ACCEPTED && outcome.place == 0, "the run is accepted");
+    for (int i = 0; i < count; i++) {
+        const uint8_t *answer = answers.data() + WINDSHEAR_ANSWER_SIZE * i;
+        const bool lit = i == count - 1;
+        check(answer[0] == (lit ? last.alert : 0) && answer[1] == (lit ? last.voice : 0) && answer[2] + 256 * answer[3] == (lit ? last.command : 0)
+              && answer[8] == (lit ? last.guidance : 0), "and so in the run");
+    }
+}
+
+/* A run of no records, and an empty file, each buffer a byte longer than its length, as the data() of an empty vector may be NULL. */
+static void lengths_of_zero() {
+    std::vector<uint8_t> file(start(0) + 1), answers(0 * WINDSHEAR_ANSWER_SIZE + 1, 0xa5);
+    check(windshear_write_header(0, file.data(), file.size() - 1) == WINDSHEAR_ACCEPTED, "the header of no records");
+    windshear_outcome outcome = windshear_run(file.data(), file.size() - 1, answers.data(), answers.size() - 1);
+    check(outcome.refusal == WINDSHEAR_ACCEPTED && outcome.place == 0 && answers[0] == 0xa5, "a run of count 0 is good");
+    outcome = windshear_run(file.data(), 0, answers.data(), answers.size() - 1);
+    check(outcome.refusal == WINDSHEAR_REFUSED_SHORT && outcome.place == 0 && answers[0] == 0xa5, "an empty file is refused by 1");
+    check(windshear_test_file(file.data(), 0).refusal == WINDSHEAR_REFUSED_SHORT && unread(windshear_read_record(file.data(), 0, 0), WINDSHEAR_REFUSED_SHORT),
+          "and so by its own test, and at a place");
+}
+
 int main() {
-    const windshear_answer want[3] = {{0, 0, 0, 0, 0, 0}, {0, WINDSHEAR_ALERT_RED, 1, 1, 5000, 2098349}, {0, WINDSHEAR_ALERT_RED, 1, 1, 5075, 7143}};
+    const windshear_answer want[3] = {{0, 0, 0, 0, 0, 0}, {0, 0, 0, 0, 0, 2098349}, {0, 0, 0, 0, 0, 7143}};
     const int32_t along[3] = {0, 2000, 2000}, vertical[3] = {0, 0, -1000};
     windshear_sample samples[3];
     windshear_record records[3];
@@ -59,7 +98,7 @@ int main() {
     windshear_state turned = lent;
     turned.core.place = 0;
     std::rotate_copy(lent.held, lent.held + lent.core.place, lent.held + 200, turned.held);
-    check(lent.core.place == 197 && turned.held[0] == 7143 && turned.held[1] == 2098349 && turned.held[2] == 0, "the entries, the newest first");
+    check(lent.core.place == 197 && turned.held[0] == 7143 && turned.held[1] == WINDSHEAR_ENTRY_LIMIT && turned.held[2] == 0, "the entries, the newest first, the gust cut");
     check(same(windshear_offer_lent(&turned, samples[2]), windshear_offer_lent(&lent, samples[2])), "a turned ring answers alike");
     for (const uint16_t place : {5, 200, 65535}) {
         windshear_state off = turned;
@@ -102,6 +141,10 @@ int main() {
     check(test.refusal == WINDSHEAR_REFUSED_LENGTH && test.place == 0 && test.count == 0, "a file that is refused");
     for (std::size_t place = 0; place < 4; place++)
         check(unread(windshear_read_record(file, start(2), place), WINDSHEAR_REFUSED_LENGTH), "and at every place");
+
+    exposed(-2940, {0, WINDSHEAR_ALERT_RED, 1, 1, 5000, 21000});
+    exposed(2940, {0, WINDSHEAR_ALERT_AMBER, 0, 0, 0, -21000});
+    lengths_of_zero();
 
     const auto eighth = windshear_hundredths(0xbe000000u), infinite = windshear_hundredths(0x7f800000u);
     check(eighth.finite == 1 && eighth.hundredths == -13 && infinite.finite == 0 && infinite.hundredths == 0, "a float's hundredths");

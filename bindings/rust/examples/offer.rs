@@ -1,4 +1,4 @@
-//! Samples offered to the unit, and a run file written, read back and run. README.md has its lines.
+//! Samples offered to the unit, and a run file written, read back and run.
 
 use windshear::{
     read_record, run, test_file, write_header, write_record, Alert, Record, Sample, State,
@@ -49,7 +49,10 @@ pub fn answer_to(record: &Record) -> Result<Vec<u8>, u16> {
 }
 
 pub fn main() {
-    println!("{:?}", lamp_after(&[0, 2_000, 20_001]));
+    println!("one gust of 20 kt: {:?}", lamp_after(&[0, 2_000]));
+    // the along wind grows by 4.2 kt a second for five seconds; then a sample that is refused
+    let along_winds: Vec<i32> = (0..=100).map(|i| 21 * i).chain([20_001]).collect();
+    println!("an exposure: {:?}", lamp_after(&along_winds));
     let record = Record {
         airspeed: 140.0,
         height: 400,

@@ -5,13 +5,13 @@
 //! ```
 //! use windshear::{refusal, Alert, Sample, State};
 //!
+//! // Five seconds at 140 kt in a downdraft of 29.4 kt, a shear of 0.2100, light the red lamp.
+//! let mut sample = Sample { vertical: -2_940, airspeed: 14_000, height: 400, stall: 20_000, vs1: 10_000, mode: 1, ..Sample::default() };
 //! let mut state = State::fresh();
-//! let mut sample = Sample { airspeed: 14_000, height: 400, pitch: 5_000, stall: 20_000, climb: -700, vs1: 10_000, mode: 1, ..Sample::default() };
-//! let mut lamp = state.offer_lent(sample).lamp();
-//! assert_eq!(lamp, Ok(Alert::None));
-//! sample.along = 2_000;
-//! lamp = state.offer_lent(sample).lamp();
-//! assert_eq!(lamp, Ok(Alert::Red));
+//! for _ in 0..99 {
+//!     assert_eq!(state.offer_lent(sample).lamp(), Ok(Alert::None));
+//! }
+//! assert_eq!(state.offer_lent(sample).lamp(), Ok(Alert::Red));
 //! // A refused sample says nothing of the lamps: red is still lit.
 //! sample.along = 20_001;
 //! assert_eq!(state.offer_lent(sample).lamp(), Err(refusal::ALONG));
@@ -46,6 +46,8 @@ pub const RECORD_SIZE: usize = 24;
 pub const MAX_RECORDS: usize = 2_600;
 /// The bytes that [`run`] writes for each record. An [`Answer`] is another thing, and larger.
 pub const ANSWER_SIZE: usize = 10;
+/// The most of a held shear that enters the windows, either way, in hundred-thousandths: see [`State`].
+pub const ENTRY_LIMIT: i32 = 34_500;
 
 /// One sample; twenty make a second. A field may hold any value; each says what is accepted. The default is all zeros, and is refused.
 #[repr(C)]
@@ -135,19 +137,24 @@ pub struct Core {
 
 /// The unit's state, which the host keeps: it is returned or lent from sample to sample. An entry outside its range is refused by [`refusal::STATE`].
 ///
-/// Its entries are the last two hundred held shears, 0 before the first sample. They are a ring: the newest stands at `core.place`, each older one
-/// a place further on, and after place 199 comes place 0. The next entry is written one place back, over the oldest, and is the newest then: from
-/// the fresh state the first one goes to place 199. States that differ only in how far the ring is turned are not equal, but stand for the same
-/// history: every sample gets the same answer from them.
+/// Its entries are the held shears of the last two hundred accepted samples, 0 before the first. The unit cuts each to between -[`ENTRY_LIMIT`] and
+/// [`ENTRY_LIMIT`] as it enters, so that one sharp gust by itself lights no lamp; [`Answer::shear`] is not cut. They are a ring: the newest stands at
+/// `core.place`, each older one a place further on, and after place 199 comes place 0. The next entry is written one place back, over the oldest, and
+/// is the newest then: from the fresh state the first one goes to place 199. States that differ only in how far the ring is turned are not equal, but
+/// stand for the same history: every sample gets the same answer from them.
 ///
-/// A host may build a state of its own, from any place on. With `seen` left at 0 the next sample would be taken as the first, with no change of along
+/// A host may build a state of its own, from any place on. To have the unit's own history it cuts each held shear as the unit does: an entry that a
+/// state holds is summed as it stands, up to 50,000,000. With `seen` left at 0 the next sample would be taken as the first, with no change of along
 /// wind; with 1, `along` and `mode` are those of the sample that entered the newest:
 ///
 /// ```
-/// use windshear::{Sample, State, Sums};
+/// use windshear::{Sample, State, Sums, ENTRY_LIMIT};
 ///
-/// let last = Sample { along: 2_000, vertical: -1_000, airspeed: 14_000, height: 400, stall: 20_000, vs1: 10_000, mode: 1, ..Sample::default() };
-/// let newest_first = [7_143, 2_098_349, 0];
+/// let last = Sample { along: 2_000, vertical: -2_940, airspeed: 14_000, height: 400, stall: 20_000, vs1: 10_000, mode: 1, ..Sample::default() };
+/// // The shears as they were answered: a gust, and then five seconds in a downdraft.
+/// let mut newest_first = [21_000; 101];
+/// newest_first[100] = 2_098_349;
+/// let newest_first = newest_first.map(|shear| shear.clamp(-ENTRY_LIMIT, ENTRY_LIMIT));
 /// let mut state = State::fresh();
 /// state.core.seen = 1;
 /// state.core.along = last.along;
@@ -157,16 +164,17 @@ pub struct Core {
 ///     state.held[(198 + i) % 200] = entry;
 /// }
 /// state.core.sums = Sums::of(newest_first);
-/// let answer = state.offer_lent(Sample { vertical: 0, ..last });
-/// assert_eq!((answer.refusal, answer.alert, answer.shear), (0, 2, 0));
+/// // Another gust: the answer shows it whole, and its entry is cut.
+/// let answer = state.offer_lent(Sample { along: 4_000, ..last });
+/// assert_eq!((answer.refusal, answer.alert, answer.shear), (0, 2, 2_119_349));
 /// assert_eq!(state.core.place, 197);
-/// assert!(state.entries().take(4).eq([0, 7_143, 2_098_349, 0]));
+/// assert!(state.entries().take(2).eq([ENTRY_LIMIT, 21_000]) && state.entries().skip(101).take(2).eq([ENTRY_LIMIT, 0]));
 /// assert_eq!(state.core.sums, Sums::of(state.entries()));
 /// ```
 #[repr(C)]
 #[derive(Clone, Copy, Debug, PartialEq, Eq)]
 pub struct State {
-    /// the ring: held shears, hundred-thousandths, -50,000,000 to 50,000,000; [`State::entries`] reads it
+    /// the ring: entries in hundred-thousandths, -50,000,000 to 50,000,000; [`State::entries`] reads it
     pub held: [i32; 200],
     /// the rest of the state
     pub core: Core,
@@ -188,7 +196,7 @@ pub mod refusal {
     pub const LENGTH: u16 = 6;
     /// lent buffer has the wrong length
     pub const BUFFER: u16 = 7;
-    /// the state does not pass: a held shear, a counter, the command, the last along wind, the last mode or the place out of range, or a sum that is not its window's
+    /// the state does not pass: an entry, a counter, the command, the last along wind, the last mode or the place out of range, or a sum that is not its window's
     pub const STATE: u16 = 8;
     /// along wind of a sample or a record out of range, or a float that is not finite
     pub const ALONG: u16 = 11;
@@ -239,7 +247,7 @@ pub struct Answer {
     pub guidance: u16,
     /// the command, 0.001 degree: -30,000 to 27,000; 0 while guidance is off
     pub command: i32,
-    /// held shear, hundred-thousandths: -50,000,000 to 50,000,000
+    /// held shear, hundred-thousandths, not cut: -50,000,000 to 50,000,000
     pub shear: i32,
 }
 
@@ -322,7 +330,7 @@ struct Converted {
     hundredths: i32,
 }
 
-// As crates/host/src/lib.rt has them; a slice there is a pointer and its length here.
+// As crates/host/src/lib.rt has them; a slice there is a pointer, which is not NULL, and its length here.
 extern "C" {
     fn windshear_fresh() -> State;
     fn windshear_offer(state: State, sample: Sample) -> Offered;
@@ -438,7 +446,18 @@ pub fn read_record(file: &[u8], place: usize) -> Result<(Record, Sample), Unread
 }
 
 /// Runs a whole file from the fresh state: [`ANSWER_SIZE`] bytes a record into `answers`, or a refusal, and `answers` stays as it was.
-/// The bytes are alert, voice, the command in 2 (signed), the held shear in 4 (signed), guidance, a zero; the lowest byte first.
+/// The bytes are alert, voice, the command in 2 (signed), the held shear in 4 (signed, not cut), guidance, a zero; the lowest byte first.
+///
+/// A run of no records is good, and its answers are empty:
+///
+/// ```
+/// use windshear::{refusal, run, write_header, Outcome, HEADER_SIZE};
+///
+/// let mut file = [0; HEADER_SIZE];
+/// assert_eq!(write_header(0, &mut file), 0);
+/// assert_eq!(run(&file, &mut []), Outcome::default());
+/// assert_eq!(run(&[], &mut []).refusal, refusal::SHORT);
+/// ```
 #[must_use = "a refused run leaves the answers as they were"]
 pub fn run(file: &[u8], answers: &mut [u8]) -> Outcome {
     // SAFETY: pointers and lengths are those of two slices that do not overlap, the second ours alone
@@ -453,6 +472,11 @@ pub fn run(file: &[u8], answers: &mut [u8]) -> Outcome {
         )
     }
 }
+
+// README.md's Rust lines are a doc test of this crate.
+#[cfg(doctest)]
+#[doc = include_str!("../../../README.md")]
+struct Readme;
 
 // The layout that the library has, as include/windshear.h states it too.
 const _: () = {
