@@ -137,7 +137,8 @@ tolerance = pos 5 over 1000000
 unfoldable pub tableValue : Window → Fraction
 tableValue w = pos (w .value) over 100000
 
--- "the exact average of the shear over each of the six windows, as a fraction, with nothing before the start counted as anything but zero"
+-- "the exact average of the shear over each of the six windows, as a fraction, with nothing before the start counted as anything but zero". "Demand 3
+-- then reads averages of exact shears cut at plus and minus 0.34500" (02, A1): of the exact entries
 unfoldable pub averageOf : Window → List Sample → Fraction
 averageOf w l = average (w .samples) (entries exactEntry l)
 
@@ -160,9 +161,10 @@ unfoldable pub lastAlert : List Sample → ℕ
 lastAlert [] = 0
 lastAlert (s ∷ before) = cond (eqb (refusal s) 0) (answerTo s before .alert) (lastAlert before)
 
--- What demand 3 asks at one accepted sample s, by a table of windows, with the accepted samples before it: whether red was lit at the one before
--- (false where there was none) and is lit at this one, whether the command is shown, and the command. It says nothing of counters or arrays:
--- averages come from the list.
+-- "For every list of samples, offered one after another from a fresh start, whatever they hold and with refused ones among them, this is so at each
+-- accepted one": at the accepted sample s, by a table of windows, with the accepted samples before it. `wasRed` is whether red was lit at the one
+-- before (false where there was none), `red` whether it is lit at this one, `shown` whether the command is shown. It says nothing of counters or
+-- arrays: averages come from the list.
 pub record Demand3At (table : List Window) (s : Sample) (before : List Sample) (wasRed red shown : Bool) (command : ℤ) : Type 0 where
   -- what the averages and the table values are: fractions as 01 has them
   pub positive : (w : Window) → List·Memᴰ w table → PositiveDivisors (s ∷ before) w
