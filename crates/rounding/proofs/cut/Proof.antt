@@ -1,11 +1,10 @@
 -- `rounding::cut` meets its contract: the number and its bounds as they are read back are themselves, and the tests are the definition's.
 use mathlib.Core.Path.{_≡_, sym, _∙_}
-use mathlib.Core.Bool.{true, false}
-use Prim.Native.Nat.{ℕ, _≤_, _<_, _^_}
+use Prim.Native.Nat.{_^_}
 use native.Mathlib.Omega.{arith}
 use borrow.Author.Needs.{needs}
 use lib.Dec.{lit<}
-use lib.IntN.{ℤ, pos, negℤ, _-ℤ_, +ℤ-idl}
+use lib.IntN.{pos, negℤ, _-ℤ_, +ℤ-idl}
 use lib.Signed.{ltZ}
 use mir.Syntax.{w32, w64}
 use mir.Val.{toZ, ofZ, Fits}
@@ -28,6 +27,13 @@ lower k = minus (lit 0) (upper k)
 least : (k : tie.Start) → toZ w64 (ofZ w64 (pos 0 -ℤ toZ w64 (k .args .most))) ≡ negℤ (pos (k .args .most))
 least k = kept w64 (lower k) (lit< tt) .is ∙ +ℤ-idl (negℤ (pos (k .args .most)))
 
+-- the code's two tests, of what is read back, are the definition's
+is-under : (k : tie.Start) → ltZ (toZ w64 (ofZ w64 (k .args .x))) (toZ w64 (ofZ w64 (pos 0 -ℤ toZ w64 (k .args .most)))) ≡ ltZ (k .args .x) (negℤ (pos (k .args .most)))
+is-under k = rw (toZ-ofZ (k .fits .x), least k)
+
+is-over : (k : tie.Start) → ltZ (toZ w64 (k .args .most)) (toZ w64 (ofZ w64 (k .args .x))) ≡ ltZ (pos (k .args .most)) (k .args .x)
+is-over k = rw (toZ-ofZ (k .fits .x), upper k .is)
+
 sub-if1 : tie.Need-sub-if1
 sub-if1 c = sfits w64 (lower c) (lit< tt)
 
@@ -36,26 +42,19 @@ sub-result c = sfits w64 (lower (c .before)) (lit< tt)
 
 returns : tie.Need-returns
 unfolding cut
-returns c =
-    let k = c .before in
-    let e : ltZ (k .args .x) (negℤ (pos (k .args .most))) ≡ true = rw (toZ-ofZ (k .fits .x), least k) at (c .if1 .taken) in
-    least k ∙ rw e
+returns c = least (c .before) ∙ rw (sym (is-under (c .before)) ∙ c .if1 .taken)
 
 returns-2 : tie.Need-returns-2
 unfolding cut
 returns-2 c =
     let k = c .before .before in
-    let e : ltZ (k .args .x) (negℤ (pos (k .args .most))) ≡ false = rw (toZ-ofZ (k .fits .x), least k) at (c .before .if1 .left) in
-    let f : ltZ (pos (k .args .most)) (k .args .x) ≡ true = rw (toZ-ofZ (k .fits .x), upper k .is) at (c .if2 .taken) in
-    upper k .is ∙ rw (e, f)
+    upper k .is ∙ rw (sym (is-under k) ∙ c .before .if1 .left, sym (is-over k) ∙ c .if2 .taken)
 
 returns-3 : tie.Need-returns-3
 unfolding cut
 returns-3 c =
     let k = c .before .before in
-    let e : ltZ (k .args .x) (negℤ (pos (k .args .most))) ≡ false = rw (toZ-ofZ (k .fits .x), least k) at (c .before .if1 .left) in
-    let f : ltZ (pos (k .args .most)) (k .args .x) ≡ false = rw (toZ-ofZ (k .fits .x), upper k .is) at (c .if2 .left) in
-    toZ-ofZ (k .fits .x) ∙ rw (e, f)
+    toZ-ofZ (k .fits .x) ∙ rw (sym (is-under k) ∙ c .before .if1 .left, sym (is-over k) ∙ c .if2 .left)
 
 pub cut-spec : {M : Type 1} → statement M
 cut-spec = tie.close (tie.spec cast-bound sub-if1 sub-result returns returns-2 returns-3)

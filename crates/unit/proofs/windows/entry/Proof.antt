@@ -2,13 +2,12 @@
 use mathlib.Core.Path.{_≡_, ap, _∙_}
 use borrow.Author.Needs.{needs}
 use lib.Dec.{lit<}
-use lib.IntN.{ℤ, natAbs}
 use mir.Syntax.{w32, w64}
-use mir.Val.{SFits, toZ, ofZ}
+use mir.Val.{toZ, ofZ}
 use mir.Facts.{toZ-ofZ}
 use Rattle.rounding.specs.Cut.{cut}
 use Rattle.rounding.proofs.CutLaws.{cut-le}
-use Rattle.rounding.proofs.Fits.{Holds, exact, kept, read, sfits}
+use Rattle.rounding.proofs.Fits.{exact, kept, read, sfits}
 use Rattle.unit.specs.Rules.{entryLimit}
 use Rattle.unit.proofs.windows.entry.Statement.{statement}
 use Rattle.unit.proofs.windows.entry.Tie as tie
@@ -22,8 +21,8 @@ cut-requires c κs = search needs
 -- what the call gives, as it is read
 given : (c : tie.After-cut) → toZ w64 (ofZ w64 (c .cut .result)) ≡ cut entryLimit (c .before .args .shear)
 given c =
-    toZ-ofZ (record { sfits = c .cut .ok }) ∙ c .cut .ensures
-    ∙ ap (cut entryLimit) (kept w64 (read w32 (c .before .fits .shear)) (lit< tt) .is)
+    let e : c .cut .result ≡ cut entryLimit (toZ w64 (ofZ w64 (toZ w32 (ofZ w32 (c .before .args .shear))))) = c .cut .ensures in
+    toZ-ofZ (record { sfits = c .cut .ok }) ∙ e ∙ ap (cut entryLimit) (kept w64 (read w32 (c .before .fits .shear)) (lit< tt) .is)
 
 cast-result : tie.Need-cast-result
 cast-result c = rw (given c) (sfits w32 (exact (cut entryLimit (c .before .args .shear)) (cut-le entryLimit (c .before .args .shear))) (lit< tt))
