@@ -1,15 +1,14 @@
 -- Laws of the cut: what it gives, that no test against a number within the bound sees it, and how it goes with rounding.
 use mathlib.Core.Path.{_≡_, refl, sym, ap, _∙_}
 use mathlib.Core.Bool.{Bool, true, false, cond}
-use Prim.Native.Nat.{ℕ, zero, suc, _+_, _*_, _≤_, _<_}
-use native.Mathlib.Nat.{le-refl, mul-le-mul-right, mul-lt-mul-of-pos-right, le-of-mul-le-mul-right}
+use Prim.Native.Nat.{ℕ, suc, _+_, _*_, _≤_, _<_}
+use native.Mathlib.Nat.{le-refl, mul-le-mul-right, mul-lt-mul-of-pos-right}
 use native.Mathlib.Omega.{arith}
 use lib.IntN.{ℤ, pos, negsuc, negℤ, natAbs, _*ℤ_}
-use lib.Signed.{leZ, ltZ, _≤ℤ_, _<ℤ_}
+use lib.Signed.{leZ, ltZ, _≤ℤ_}
 use Rattle.rounding.specs.Claims.{RoundsInOrder, RoundsThenCuts}
 use Rattle.rounding.specs.Cut.{cut, negF, ltF, cutF}
 use Rattle.rounding.specs.Fraction.{Fraction, _over_, timesF, roundF, Positive}
-use Rattle.rounding.specs.Rounding.{roundAway}
 use Rattle.rounding.proofs.Difference.{up, down, any, nat, negD, *D, eqD, leD, ltD, ofLe, ofLt, sizeD, ofSize}
 use Rattle.rounding.proofs.Fits.{size-neg}
 use Rattle.rounding.proofs.Order.{lt-ltZ, le-ltZ, le-leZ, lt-leZ, ltZ-true, ltZ-false}

@@ -30,7 +30,7 @@ use Rattle.unit.proofs.Choices.{cond-has, passed}
 use Rattle.unit.proofs.Follow.{coreOf, Follows, toGuide, countOf, shear-follows, entry-follows, guide-next, core-next, answered, left, left-follows, accept-follows}
 use Rattle.unit.proofs.Holding.{fresh-holds, accept-holds, fits-holds}
 use Rattle.unit.proofs.PitchLaws.{lamp-le, unless-le, voice-le, count-le, command-ge, command-le, command-cap}
-use Rattle.unit.proofs.RangeLaws.{every-set, bounds, inside-bounds, size-le, in-range-fields, in-range, Passing, passing, passes-of}
+use Rattle.unit.proofs.RangeLaws.{every-set, bounds, inside-bounds, in-range-fields, in-range, Passing, passing, passes-of}
 
 -- ════ Accepted samples ════
 
