@@ -545,7 +545,7 @@ fn accessors() {
         ),
         (0, 0, 0, 0)
     );
-    assert_eq!(unit.last_held(3), [0, 0, 0]);
+    assert_eq!(unit.last_entries(3), [0, 0, 0]);
     for (i, s) in met(1, 1_000, |i, s| s.climb = (i >= 500).into())
         .iter()
         .enumerate()
@@ -568,7 +568,7 @@ fn accessors() {
         (Some(2_000), Some(1))
     );
     assert_eq!(
-        unit.last_held(1_001)[998..],
+        unit.last_entries(1_001)[998..],
         [2_098_349 + 71_429, 71_429, 0]
     );
     pair.offer(&Sample { mode: 0, ..CALM }).unwrap();
