@@ -84,7 +84,8 @@ pub fn damage(rng: &mut Rng, file: &mut Vec<u8>) {
         };
     }
     if rng.one_in(6) {
-        file.truncate(rng.draw() as usize % file.len());
+        let end = if rng.one_in(10) { 9 } else { file.len() };
+        file.truncate(rng.draw() as usize % end);
     }
     if rng.one_in(10) {
         file.resize(file.len() + rng.within(1, 30) as usize, rng.draw() as u8);
