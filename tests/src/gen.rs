@@ -1,6 +1,7 @@
 //! Lists of samples to offer to a unit, the same ones every time.
 
 use crate::reference::{nearest, Sample, CUT, RANGES, WINDOWS};
+use std::collections::BTreeSet;
 
 /// A splitmix generator.
 pub struct Rng(u64);
@@ -550,10 +551,34 @@ fn both(_: &mut Rng, out: &mut Lists) {
     }
 }
 
+/// After an exposure at the cut, the least shear of the next sample that meets each window: what is left
+/// of its limit.
+pub fn least_after_exposure() -> [i32; 6] {
+    WINDOWS.map(|(samples, value)| samples as i32 * value as i32 - EXPOSURE * CUT)
+}
+
+/// An exposure beyond the cut after 20 calm samples, then a sample of another shear, then calm.
+pub fn one_more(sign: i32, (vertical, airspeed): (i32, i32)) -> Vec<Sample> {
+    stretches(&[(0, 20), (sign, EXPOSURE), (0, 70)], |i, s| {
+        if i == 20 + EXPOSURE {
+            (s.vertical, s.airspeed) = (sign * vertical, airspeed);
+        }
+    })
+}
+
 /// Flat exposures around the cut, made by the vertical wind or by the along wind, around the 61 samples
-/// that meet all windows at the cut.
+/// that meet all windows at the cut; and the last of these weaker, around what meets each window.
 fn cuts(_: &mut Rng, out: &mut Lists) {
     for sign in [1, -1] {
+        let least = BTreeSet::from(least_after_exposure());
+        for held in least.into_iter().flat_map(|least| least - 1..=least) {
+            for pair in plateaus(held) {
+                out.push((
+                    format!("{held} last by {pair:?} {sign}"),
+                    one_more(sign, pair),
+                ));
+            }
+        }
         for n in [EXPOSURE - 1, EXPOSURE, EXPOSURE + 1, EXPOSURE + 2, 100] {
             for held in [-600, -2, -1, 0, 1, 2, 600].map(|beside| CUT + beside) {
                 for (vertical, airspeed) in plateaus(held) {

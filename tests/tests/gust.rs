@@ -173,6 +173,34 @@ fn plateaus_at_the_cut() {
     both.done();
 }
 
+/// After 60 samples beyond the cut the next one decides, to a hundred-thousandth: what has entered is 60 times the cut, and
+/// neither one more nor one less each.
+#[test]
+fn one_more_after_the_cut() {
+    let both = Both::new();
+    let least = least_after_exposure();
+    assert_eq!(least, [30_000, 28_800, 27_600, 28_600, 27_600, 30_000]);
+    for (sign, alert) in WAYS {
+        for held in least.into_iter().flat_map(|least| least - 1..=least) {
+            for pair in plateaus(held) {
+                let list = one_more(sign, pair);
+                let at = 20 + EXPOSURE as usize;
+                let lit = held >= 27_600;
+                assert_eq!(told(&both, &list).first(alert), lit.then_some(at), "{held}");
+                let mut told_so_far = both.fresh("one more");
+                for s in &list[..=at] {
+                    told_so_far.offer(s).unwrap();
+                }
+                let windows = WINDOWS.iter().zip(least);
+                let met = windows.filter(|(_, least)| held >= *least);
+                let met: Vec<_> = met.map(|(window, _)| window.0).collect();
+                assert_eq!(told_so_far.windows_met(sign.into()), met, "{held}");
+            }
+        }
+    }
+    both.done();
+}
+
 /// Gusts that would meet a window uncut, alone or several together, and do not: no lamp comes on.
 #[test]
 fn met_only_without_the_cut() {
