@@ -289,19 +289,25 @@ fn lamp_hold() {
     both.done();
 }
 
+/// The samples of `turned` before its turn.
+const TURN: i32 = 120;
+
+/// Samples at the cut one way, then the other way. Counted from the turn, the first condition holds to 58
+/// (of 200 samples, 120 less 59 are 61), the second from 80 on (of 100, 81 less 19 are 62).
+fn turned(first: i32, in_band: impl Fn(i32) -> bool) -> Vec<Sample> {
+    stretches(&[(first, TURN), (-first, 190)], |i, s| {
+        s.height = if in_band(i - TURN) { 400 } else { 1_001 }
+    })
+}
+
 /// "Lamps and voice": amber is dark while red is lit; after red it comes on only by its condition.
 #[test]
 fn amber_and_red() {
     let both = Both::new();
-    // 120 samples at the cut one way, then as many the other way: counted from there, the first condition
-    // holds to 58 (of 200 samples, 120 less 59 are 61), the second from 80 on (of 100, 81 less 19 are 62).
-    const TURN: i32 = 120;
     let lamps = |first: i32, in_band: &dyn Fn(i32) -> bool| {
-        let list = stretches(&[(first, TURN), (-first, 190)], |i, s| {
-            s.height = if in_band(i - TURN) { 400 } else { 1_001 }
-        });
-        let answers = both.play(&list).split_off(TURN as usize);
-        (with_alert(&answers, 1), with_alert(&answers, 2))
+        let answers = both.play(&turned(first, in_band));
+        let answers = &answers[TURN as usize..];
+        (with_alert(answers, 1), with_alert(answers, 2))
     };
     let turns = |first, alert: u8, at: i32| {
         let (amber, red) = lamps(first, &|i| i == at);
@@ -993,12 +999,26 @@ fn listings() {
 #[test]
 fn listing_totals() {
     let both = Both::new();
-    // Exposures: amber by the first, red in the second, amber again in the third.
-    let list = stretches(&[(-1, 70), (1, 100), (-1, 100)], |_, _| ());
-    let mut alerts: Vec<_> = both.play(&list).iter().map(|a| a.alert).collect();
-    let text = both.listing(&file_of_samples(&list));
-    assert_eq!(text.lines().last(), Some("red 1 amber 2"));
-    alerts.dedup();
-    assert_eq!(alerts, [0, 1, 0, 2, 0, 1]);
+    let three = [(-1, 70), (1, 100), (-1, 100)];
+    for (list, alerts, total) in [
+        (
+            stretches(&three, |_, _| ()),
+            &[0, 1, 0, 2, 0, 1][..],
+            "red 1 amber 2",
+        ),
+        // the one straight after the other
+        (
+            turned(-1, |i| i == 30 || i == 80),
+            &[0, 1, 2, 0],
+            "red 1 amber 1",
+        ),
+        (turned(1, |i| i >= 50), &[0, 2, 1], "red 1 amber 1"),
+    ] {
+        let mut shown: Vec<_> = both.play(&list).iter().map(|a| a.alert).collect();
+        shown.dedup();
+        assert_eq!(shown, alerts);
+        let text = both.listing(&file_of_samples(&list));
+        assert_eq!(text.lines().last(), Some(total));
+    }
     both.done();
 }
