@@ -3,9 +3,11 @@
 use crate::files::right_len;
 use crate::gen::CALM;
 use crate::lend::lend;
-use crate::library::{cut, expected, record_bits, refused, sent, sent_record, state_of};
+use crate::library::{
+    cut, expected, record_bits, refused, sent, sent_record, state_of, with_entries,
+};
 use crate::program::listed;
-use crate::reference::{self, Answer, Record, Sample, Unit};
+use crate::reference::{self, Answer, Record, Sample, Unit, WINDOWS};
 use std::cell::Cell;
 use windshear::{FileTest, Outcome, State, Unread};
 
@@ -39,14 +41,24 @@ impl Both {
 
     /// Two units that have seen no sample; failures name the list that they are to be told.
     pub fn fresh<'a>(&'a self, list: &'a str) -> Pair<'a> {
+        self.pair(list, Unit::new(), State::fresh())
+    }
+
+    /// As `fresh`, with two hundred entries in the windows, the newest first.
+    pub fn holding<'a>(&'a self, list: &'a str, entries: &[i32]) -> Pair<'a> {
+        let state = with_entries(&State::fresh(), 0, entries);
+        self.pair(list, Unit::holding(entries), state)
+    }
+
+    fn pair<'a>(&'a self, list: &'a str, unit: Unit, state: State) -> Pair<'a> {
         let pair = Pair {
             both: self,
             list,
             offered: 0,
-            unit: Unit::new(),
-            state: State::fresh(),
+            unit,
+            state,
         };
-        assert_eq!(pair.state, state_of(&pair.unit), "{list}: fresh");
+        assert_eq!(pair.state, state_of(&pair.unit), "{list}: at the start");
         self.count(1);
         pair
     }
@@ -182,5 +194,16 @@ impl Pair<'_> {
         self.both.count(4);
         self.offered += 1;
         answer
+    }
+
+    /// The lengths of the windows that are met, upward for sign 1, downward for -1.
+    pub fn windows_met(&self, sign: i64) -> Vec<usize> {
+        let is_met = |&(samples, value): &(usize, i64)| {
+            let sum = self.state.entries().take(samples).map(i64::from).sum();
+            assert_eq!(self.unit.window_sum(samples), sum, "{}", self.list);
+            sign * sum >= samples as i64 * value
+        };
+        let met = WINDOWS.iter().filter(|w| is_met(w));
+        met.map(|w| w.0).collect()
     }
 }

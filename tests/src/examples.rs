@@ -23,7 +23,7 @@ fn calm() -> Vec<u8> {
     }))
 }
 
-/// The three records of 01, "The listing".
+/// The three records of 01, "The listing": one gust, which stays dark (02, A1).
 fn gust() -> Vec<u8> {
     let winds = [(0, 0), (2_000, 0), (2_000, -1_000)];
     file_of_samples(&winds.map(|(along, vertical)| Sample {
@@ -33,12 +33,58 @@ fn gust() -> Vec<u8> {
     }))
 }
 
-/// One gust of 20 knots that lasts five seconds: red as it comes, amber after it has gone.
-fn gust20() -> Vec<u8> {
-    file_of_samples(&approach(400, |i, s| {
-        if (80..180).contains(&i) {
-            s.along += 2_000;
-        }
+/// Between corners, each a sample and its value, along curves that are level at each; level before and after.
+fn eased(corners: &[(i64, i64)], i: i32) -> i32 {
+    let i = i64::from(i).clamp(corners[0].0, corners[corners.len() - 1].0);
+    let part = corners.windows(2).find(|part| i <= part[1].0).unwrap();
+    let ((from, low), (to, high)) = (part[0], part[1]);
+    let (n, i) = (to - from, i - from);
+    (low + (high - low) * i * i * (3 * n - 2 * i) / (n * n * n)) as i32
+}
+
+/// An approach through a microburst, half a minute: the headwind grows by 25 knots with an updraft, and
+/// amber comes on; in the core it becomes a tailwind in a downdraft, and red comes on with the voice and
+/// the escape pitch, which the pilot follows; behind it the lamp goes out, and the pilot cancels.
+fn microburst() -> Vec<u8> {
+    let mut height = 1_200 * 700;
+    file_of_samples(&series(600, |i, s| {
+        s.along = eased(
+            &[
+                (40, -500),
+                (190, -3_000),
+                (215, -3_000),
+                (445, 1_800),
+                (600, 900),
+            ],
+            i,
+        );
+        s.vertical = eased(
+            &[
+                (40, 0),
+                (115, 400),
+                (215, 0),
+                (330, -900),
+                (445, -300),
+                (560, 0),
+            ],
+            i,
+        );
+        s.airspeed = 13_750 - s.along / 2;
+        s.climb = eased(
+            &[
+                (40, -700),
+                (115, -300),
+                (215, -700),
+                (330, -1_300),
+                (420, 900),
+            ],
+            i,
+        );
+        s.pitch = eased(&[(40, 2_500), (190, 1_500), (330, 3_000), (490, 15_000)], i);
+        s.stall = 17_000 - s.climb;
+        s.deselect = (i >= 580).into();
+        height += s.climb;
+        s.height = height / 1_200;
     }))
 }
 
@@ -62,7 +108,7 @@ pub fn examples() -> [(&'static str, Vec<u8>); 5] {
     [
         ("calm", calm()),
         ("gust", gust()),
-        ("gust20", gust20()),
+        ("microburst", microburst()),
         ("plateau", flat()),
         ("refused", refused()),
     ]

@@ -1,6 +1,6 @@
 //! Run files made from samples, good and damaged, and the floats in them.
 
-use crate::gen::{gusts, random_sample, Rng, CALM};
+use crate::gen::{any, gusts, Rng, CALM};
 use crate::reference::{read_record, Record, Sample, RANGES};
 
 /// The record of a sample, its speeds the floats nearest to so many hundredths more (below half of
@@ -66,7 +66,7 @@ pub fn random_file(rng: &mut Rng, count: i32) -> Vec<u8> {
     let list = if rng.one_in(2) {
         gusts(rng, count)
     } else {
-        (0..count).map(|_| random_sample(rng)).collect()
+        any(rng, count)
     };
     let records = list.iter().map(|s| record_of(s, within_half(rng)));
     file_of(&records.collect::<Vec<_>>())
@@ -84,16 +84,19 @@ pub fn damage(rng: &mut Rng, file: &mut Vec<u8>) {
         };
     }
     if rng.one_in(6) {
-        file.truncate(rng.draw() as usize % file.len());
+        let end = if rng.one_in(10) { 9 } else { file.len() };
+        file.truncate(rng.draw() as usize % end);
     }
     if rng.one_in(10) {
         file.resize(file.len() + rng.within(1, 30) as usize, rng.draw() as u8);
     }
 }
 
-/// A short good file, or one of those given, damaged.
+/// A good file, mostly short, or one of those given, damaged. An exposure that lights a lamp has room in
+/// a long one.
 pub fn damaged_file(rng: &mut Rng, given: &[Vec<u8>]) -> Vec<u8> {
-    let count = rng.within(0, 40);
+    let most = rng.pick(&[40, 40, 40, 40, 240]);
+    let count = rng.within(0, most);
     let mut file = if rng.one_in(20) {
         given[rng.draw() as usize % given.len()].clone()
     } else {

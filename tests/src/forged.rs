@@ -2,7 +2,7 @@
 
 use crate::gen::{gusts, Rng};
 use crate::library::{entries, in_order, state_of, summed, sums, with_entries};
-use crate::reference::{shear, Unit, WINDOWS};
+use crate::reference::{entry, shear, Unit, WINDOWS};
 use windshear::{Sample, State};
 
 /// A state, what was done to it, and whether it passes 8.
@@ -143,7 +143,8 @@ fn put_places(base: &State, put: Put) {
 }
 
 /// One sample within the band, offered in both forms, against the plain list of the entries: the shear
-/// is the newest of them, the oldest is gone, each sum is summed anew, and the lamps follow those sums.
+/// is cut to the newest of them (02, A1), the oldest is gone, each sum is summed anew, and the lamps
+/// follow those sums.
 pub fn step(state: &mut State, s: Sample) {
     let before = *state;
     let (answer, after) = before.offer(s);
@@ -157,7 +158,7 @@ pub fn step(state: &mut State, s: Sample) {
     };
     assert_eq!(answer.shear, shear(s.along - from, s.vertical, s.airspeed));
     let mut list = entries(&before);
-    list.insert(0, answer.shear);
+    list.insert(0, entry(answer.shear));
     list.truncate(200);
     let place = usize::from(before.core.place + 199) % 200;
     assert_eq!(after, with_entries(&after, place, &list));

@@ -1,6 +1,7 @@
 //! Lists of samples to offer to a unit, the same ones every time.
 
-use crate::reference::{nearest, Sample, RANGES, WINDOWS};
+use crate::reference::{nearest, Sample, CUT, RANGES, WINDOWS};
+use std::collections::BTreeSet;
 
 /// A splitmix generator.
 pub struct Rng(u64);
@@ -72,15 +73,31 @@ pub fn stepped(
     })
 }
 
-/// Windows met from sample 1 on, upward for sign 1, downward for -1; the height then decides.
-pub fn met(sign: i32, n: i32, mut edit: impl FnMut(i32, &mut Sample)) -> Vec<Sample> {
-    stepped(n, &[(1, sign * 2_000)], |i, s| {
-        s.vertical = -sign * 10_000;
+/// A vertical wind whose shear at the calm airspeed is beyond the cut: 71,429, which enters as 34,500.
+const STRONG: i32 = 10_000;
+
+/// Stretches of strong vertical wind, then edited: which way each goes (1 costs performance, -1 gains it,
+/// 0 is calm), and for how many samples.
+pub fn stretches(parts: &[(i32, i32)], mut edit: impl FnMut(i32, &mut Sample)) -> Vec<Sample> {
+    let each = |&(way, n): &(i32, i32)| std::iter::repeat_n(way, n as usize);
+    let ways: Vec<_> = parts.iter().flat_map(each).collect();
+    series(ways.len() as i32, |i, s| {
+        s.vertical = -ways[i as usize] * STRONG;
         edit(i, s);
     })
 }
 
-/// As `met`, with the condition only at the samples (from 1 on) that `at` names.
+/// So many samples at the cut meet no window, and one more meets all six: 60 × 34,500 is below every
+/// limit, and 61 × 34,500 below none.
+pub const EXPOSURE: i32 = 60;
+
+/// All windows met at `n` samples, upward for sign 1, downward for -1; the height then decides. An
+/// exposure goes before them, whose samples are counted below 0.
+pub fn met(sign: i32, n: i32, mut edit: impl FnMut(i32, &mut Sample)) -> Vec<Sample> {
+    stretches(&[(sign, EXPOSURE + n)], |i, s| edit(i - EXPOSURE, s))
+}
+
+/// As `met`, with the condition only at the samples (from 0 on) that `at` names.
 pub fn condition_at(
     sign: i32,
     n: i32,
@@ -108,9 +125,10 @@ pub fn plateaus(held: i32) -> Vec<(i32, i32)> {
     [0, -1, 1].into_iter().filter_map(holding).collect()
 }
 
-/// `before` calm samples, the last one a step of `dip` in along wind, then `n` of one shear, then calm.
+/// `before` calm samples, the last `dip` of them at the cut the other way, then `n` of one shear, then calm.
 pub fn plateau(before: i32, dip: i32, n: i32, (vertical, airspeed): (i32, i32)) -> Vec<Sample> {
-    stepped(before + n + 70, &[(before - 1, dip)], |i, s| {
+    let parts = [(0, before - dip), (vertical.signum(), dip), (0, n + 70)];
+    stretches(&parts, |i, s| {
         if (before..before + n).contains(&i) {
             (s.vertical, s.airspeed) = (vertical, airspeed);
         }
@@ -149,9 +167,9 @@ pub fn meets_row(alerts: &[u8], before: usize, alert: u8, limits: Option<[usize;
 
 /// Values where something changes, field by field.
 const TURNS: [&[i32]; 10] = [
-    &[0, 1_999, 2_000, -1_999, -2_000],
-    &[0, 1, -1, -1_050],
-    &[10_000, 13_000, 13_001, 14_000],
+    &[0, 32, 33, -32, -33, 2_000, -2_000],
+    &[0, 1, -1, -1_050, -3_450, 3_450, -3_451, 3_451],
+    &[10_000, 13_000, 13_001, 14_000, 28_985, 28_986],
     &[0, 49, 50, 400, 1_000, 1_001],
     &[0, 5_000, 14_925, 15_000, 15_075, 27_000, 27_001],
     &[-1, 0, 14_999, 15_000, 15_001, 26_999, 27_000, 27_001],
@@ -233,20 +251,26 @@ pub fn calm_air(rng: &mut Rng, n: i32) -> Vec<Sample> {
     })
 }
 
-/// Turbulence: strong random changes of both winds and of the airspeed at every sample.
+/// Turbulence: strong random changes of both winds and of the airspeed at every sample, half of them
+/// beyond the cut. Drafts of some seconds below them light lamps.
 pub fn turbulence(rng: &mut Rng, n: i32) -> Vec<Sample> {
+    let (mut rough, mut draft) = (40, 0);
     series(n, |_, s| {
-        s.along = rng.within(-1_080, 1_080);
-        s.vertical = rng.within(-2_500, 2_500);
+        if rng.one_in(150) {
+            rough = rng.pick(&[20, 40, 1_080]);
+            draft = rng.within(-7_500, 7_500);
+        }
+        s.along = rng.within(-rough, rough);
+        s.vertical = draft + rng.within(-2_500, 2_500);
         s.airspeed = rng.within(12_000, 16_000);
         s.pitch = rng.within(-3_000, 18_000);
     })
 }
 
-/// Winds that wander and jump; modes, heights and climbs that last a while.
+/// Winds that wander and jump; drafts, modes, heights and climbs that last a while.
 pub fn gusts(rng: &mut Rng, n: i32) -> Vec<Sample> {
     let mut now = CALM;
-    let mut lift = 0;
+    let mut lift = rng.within(-8_000, 8_000);
     let cancels = rng.one_in(3);
     (0..n)
         .map(|_| {
@@ -255,8 +279,8 @@ pub fn gusts(rng: &mut Rng, n: i32) -> Vec<Sample> {
                 now.along += rng.within(-2_600, 2_600);
             }
             now.along = now.along.clamp(-20_000, 20_000);
-            if rng.one_in(60) {
-                lift = rng.within(-3_000, 3_000);
+            if rng.one_in(80) {
+                lift = rng.within(-8_000, 8_000);
             }
             now.vertical = lift + rng.within(-100, 100);
             now.airspeed = (now.airspeed + rng.within(-30, 30)).clamp(6_000, 60_000);
@@ -286,20 +310,40 @@ fn gusty(rng: &mut Rng, out: &mut Lists) {
     }
 }
 
+/// Every field at random. In some stretches both winds go one way, so that windows are met: the along
+/// wind by up to a fiftieth of the rest of its range.
+pub fn any(rng: &mut Rng, n: i32) -> Vec<Sample> {
+    let (mut along, mut way) = (0, rng.within(-1, 1));
+    let one = |_| {
+        if rng.one_in(120) {
+            way = rng.within(-1, 1);
+        }
+        let mut s = random_sample(rng);
+        if way != 0 {
+            let rest = 20_000 * way - along;
+            s.along = along + rest * rng.within(0, 100) / 5_000;
+            s.vertical = -way * s.vertical.abs();
+        }
+        along = s.along;
+        s
+    };
+    (0..n).map(one).collect()
+}
+
 fn random(rng: &mut Rng, out: &mut Lists) {
     for (k, n) in lengths(rng, 300, 10).into_iter().enumerate() {
-        out.push((k.to_string(), (0..n).map(|_| random_sample(rng)).collect()));
+        out.push((k.to_string(), any(rng, n)));
     }
 }
 
-/// Fields at the ends of their ranges and at turning values, each kept for a while.
+/// Fields at the ends of their ranges and at turning values, each kept for a while, the speeds for longer.
 fn edges(rng: &mut Rng, out: &mut Lists) {
     for (k, n) in lengths(rng, 400, 10).into_iter().enumerate() {
-        let stay = rng.pick(&[1, 5, 40, 150]) as u64;
-        let mut fields = CALM.fields();
+        let (winds, rest) = (rng.pick(&[1, 5, 150, 400]), rng.pick(&[1, 5, 40, 150]));
+        let mut fields = std::array::from_fn(|i| edge(rng, i));
         let list = series(n, |_, s| {
             for (i, field) in fields.iter_mut().enumerate() {
-                if rng.one_in(stay) {
+                if rng.one_in(if i < 3 { winds } else { rest }) {
                     *field = edge(rng, i);
                 }
             }
@@ -314,10 +358,10 @@ fn refused(rng: &mut Rng, out: &mut Lists) {
     for (i, &range) in RANGES.iter().enumerate() {
         for value in bad_values(range) {
             let mut list = condition_at(1 - 2 * (i as i32 % 2), 160, |i| i % 70 == 10, |_, _| ());
-            for place in [120, 81, 80, 79, 70, 11, 10, 1, 0] {
+            for place in [120, 81, 80, 79, 70, 11, 10, 1, 0, 1 - EXPOSURE, -EXPOSURE] {
                 let mut fields = random_sample(rng).fields();
                 fields[i] = value;
-                list.insert(place, Sample::from_fields(fields));
+                list.insert((EXPOSURE + place) as usize, Sample::from_fields(fields));
             }
             out.push((format!("field {i} is {value}"), list));
         }
@@ -359,14 +403,10 @@ fn thresholds(_: &mut Rng, out: &mut Lists) {
     for (samples, value) in WINDOWS {
         for beside in [-2, -1, 0, 1] {
             for pair in plateaus(value as i32 + beside) {
-                for (before, dip) in [(0, 0), (37, 0), (3, 20_000), (150, 20_000)] {
+                for (before, dip) in [(0, 0), (37, 0), (3, 1), (150, 70)] {
                     for sign in [1, -1] {
-                        let list = plateau(
-                            before,
-                            -sign * dip,
-                            samples as i32 + 25,
-                            (sign * pair.0, pair.1),
-                        );
+                        let list =
+                            plateau(before, dip, samples as i32 + 25, (sign * pair.0, pair.1));
                         out.push((
                             format!("{value} {beside} {pair:?} {before} {dip} {sign}"),
                             list,
@@ -390,29 +430,46 @@ fn thresholds(_: &mut Rng, out: &mut Lists) {
     }
 }
 
-/// One step of along wind, or the same step in two parts.
+/// One step of along wind, or the same step in two parts; alone, or after exposures that meet no window
+/// yet. A step of 27 after one of 60 samples meets the first windows, one of 29 all, one of 33 is cut.
 fn steps(_: &mut Rng, out: &mut Lists) {
-    for size in [1_998_i32, 1_999, 2_000, 2_001, 2_002, 2_003, 4_000, 20_000] {
-        for step in [size, -size] {
-            for from in [0, -step / 2, 17_000 * -step.signum()] {
+    for size in [26, 27, 28, 29, 32, 33, 1_999, 2_000, 20_000] {
+        for way in [1, -1] {
+            let step = way * size;
+            for before in [0, EXPOSURE - 1, EXPOSURE] {
                 for second in [0, 1, 30, 119, 120, 160] {
-                    let parts = [(0, from), (5, step / 3), (5 + second, step - step / 3)];
-                    let list = stepped(230, &parts, |_, _| ());
-                    out.push((format!("{step} from {from} in two {second}"), list));
+                    let at = before + 5;
+                    let parts = [
+                        (0, -step / 2),
+                        (at, step / 3),
+                        (at + second, step - step / 3),
+                    ];
+                    let list = stepped(before + 230, &parts, |i, s| {
+                        if i < before {
+                            s.vertical = -way * STRONG;
+                        }
+                    });
+                    out.push((format!("{step} after {before} in two {second}"), list));
                 }
             }
         }
     }
 }
 
-/// Many steps of along wind in either direction.
+/// Many steps of along wind in either direction, over drafts whose shear is near that of a window.
 fn kicks(rng: &mut Rng, out: &mut Lists) {
     for k in 0..300 {
         let (mut along, mut height, mut mode) = (0, 400, 1);
+        let mut draft = 0;
         let n = rng.within(150, 450);
-        let list = series(n, |_, s| {
+        let list = series(n, |i, s| {
+            if i == 0 || rng.one_in(150) {
+                let (_, value) = rng.pick(&WINDOWS);
+                draft = rng.pick(&[1, -1]) * value as i32 / 10 + rng.within(-40, 40);
+            }
+            (s.vertical, s.airspeed) = (-draft, 10_000);
             if rng.one_in(25) {
-                let kick = rng.pick(&[1_999, 2_000, 2_001, 4_000, 16_000]) * rng.pick(&[1, -1]);
+                let kick = rng.pick(&[20, 33, 2_000, 4_000, 16_000]) * rng.pick(&[1, -1]);
                 along = i32::clamp(along + kick, -20_000, 20_000);
             }
             if rng.one_in(40) {
@@ -472,25 +529,74 @@ fn hold(_: &mut Rng, out: &mut Lists) {
     }
 }
 
-/// A large step one way and a smaller one the other way: both conditions at once, or red then amber.
+/// An exposure one way and another the other way: red then amber, or amber then red. The band is entered
+/// at the start, or late, so that the lamp's hold lasts until the other condition comes.
 fn both(_: &mut Rng, out: &mut Lists) {
     for sign in [1, -1] {
-        for gap in (1..=205).step_by(2) {
-            for large_first in [true, false] {
-                let (large, small) = (-sign * 16_000, sign * 4_000);
-                let (first, second) = if large_first {
-                    (large, small)
-                } else {
-                    (small, large)
-                };
-                let list = stepped(gap + 275, &[(5, first), (5 + gap, second)], |_, _| ());
-                out.push((format!("{sign} {gap} {large_first}"), list));
+        for gap in (0..=204).step_by(6) {
+            for (first, second) in [(120, 85), (70, 130)] {
+                for late in [0, 30, 58] {
+                    let parts = [(-sign, first), (0, gap), (sign, second), (0, 70)];
+                    let list = stretches(&parts, |i, s| {
+                        s.height = if late == 0 || i >= first + late {
+                            400
+                        } else {
+                            1_001
+                        };
+                    });
+                    out.push((format!("{sign} {gap} {first} {late}"), list));
+                }
             }
         }
     }
 }
 
-/// A mode change at each offset from the coming-on at sample 20, then again, or not.
+/// After an exposure at the cut, the least shear of the next sample that meets each window: what is left
+/// of its limit.
+pub fn least_after_exposure() -> [i32; 6] {
+    WINDOWS.map(|(samples, value)| samples as i32 * value as i32 - EXPOSURE * CUT)
+}
+
+/// An exposure beyond the cut after 20 calm samples, then a sample of another shear, then calm.
+pub fn one_more(sign: i32, (vertical, airspeed): (i32, i32)) -> Vec<Sample> {
+    stretches(&[(0, 20), (sign, EXPOSURE), (0, 70)], |i, s| {
+        if i == 20 + EXPOSURE {
+            (s.vertical, s.airspeed) = (sign * vertical, airspeed);
+        }
+    })
+}
+
+/// Flat exposures around the cut, made by the vertical wind or by the along wind, around the 61 samples
+/// that meet all windows at the cut; and the last of these weaker, around what meets each window.
+fn cuts(_: &mut Rng, out: &mut Lists) {
+    for sign in [1, -1] {
+        let least = BTreeSet::from(least_after_exposure());
+        for held in least.into_iter().flat_map(|least| least - 1..=least) {
+            for pair in plateaus(held) {
+                out.push((
+                    format!("{held} last by {pair:?} {sign}"),
+                    one_more(sign, pair),
+                ));
+            }
+        }
+        for n in [EXPOSURE - 1, EXPOSURE, EXPOSURE + 1, EXPOSURE + 2, 100] {
+            for held in [-600, -2, -1, 0, 1, 2, 600].map(|beside| CUT + beside) {
+                for (vertical, airspeed) in plateaus(held) {
+                    let list = plateau(20, 0, n, (sign * vertical, airspeed));
+                    out.push((format!("{held} by {vertical} {airspeed} {n} {sign}"), list));
+                }
+            }
+            for change in [32, 33, 34, 390] {
+                let list = series(20 + n + 70, |i, s| {
+                    s.along = sign * (change * (i - 19).clamp(0, n) - 19_500);
+                });
+                out.push((format!("by change {change} {n} {sign}"), list));
+            }
+        }
+    }
+}
+
+/// A mode change at each offset from the coming-on at sample 20 after the exposure, then again, or not.
 fn modes(_: &mut Rng, out: &mut Lists) {
     let patterns: [fn(i32) -> bool; 5] = [
         |d| d == 0,
@@ -516,7 +622,7 @@ fn modes(_: &mut Rng, out: &mut Lists) {
     }
 }
 
-/// Deselect at each offset from the coming-on at sample 20, for one or more samples.
+/// Deselect at each offset from the coming-on at sample 20 after the exposure, for one or more samples.
 fn deselects(_: &mut Rng, out: &mut Lists) {
     for offset in (-2..=4).chain([30, 59, 60, 61, 62, 89, 90, 91]) {
         for stay in [1, 2, 100] {
@@ -611,7 +717,7 @@ fn caps(rng: &mut Rng, out: &mut Lists) {
 type Generator = fn(&mut Rng, &mut Lists);
 
 /// Every generator by its name.
-pub const GENERATORS: [(&str, Generator); 16] = [
+pub const GENERATORS: [(&str, Generator); 17] = [
     ("calm", calm),
     ("gusty", gusty),
     ("random", random),
@@ -624,6 +730,7 @@ pub const GENERATORS: [(&str, Generator); 16] = [
     ("heights", heights),
     ("hold", hold),
     ("both", both),
+    ("cuts", cuts),
     ("modes", modes),
     ("deselects", deselects),
     ("climbs", climbs),
@@ -653,7 +760,6 @@ type Make = fn(&mut Rng, i32) -> Vec<Sample>;
 
 /// Lists of `LONG` accepted samples, with refused ones among them.
 pub fn long_lists() -> Vec<(String, Vec<Sample>)> {
-    let any: Make = |rng, n| (0..n).map(|_| random_sample(rng)).collect();
     let makes: [(&str, Make); 4] = [
         ("calm", calm_air),
         ("turbulent", turbulence),

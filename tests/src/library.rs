@@ -93,7 +93,7 @@ pub fn with_entries(state: &State, place: usize, entries: &[i32]) -> State {
 pub fn state_of(unit: &reference::Unit) -> State {
     let stop = |n: u64, at: u64| n.min(at) as u16;
     let place = (200 - unit.accepted() % 200) % 200;
-    let mut held = unit.last_held(200);
+    let mut held = unit.last_entries(200);
     held.rotate_right(place);
     State {
         held: held.try_into().unwrap(),

@@ -4,6 +4,7 @@ use std::collections::BTreeSet;
 use std::fs;
 use windshear_tests::both::Both;
 use windshear_tests::examples::{examples, FOLDER};
+use windshear_tests::files::right_len;
 
 #[test]
 fn stored_as_made() {
@@ -21,5 +22,35 @@ fn stored_as_made() {
     let found = found.map(|entry| entry.unwrap().file_name().into_string().unwrap());
     assert_eq!(found.collect::<BTreeSet<_>>(), names);
     println!("compared {} stored examples and listings", names.len());
+    both.done();
+}
+
+/// What each example shows: the alerts, the voice's cycles and whether guidance is on, each without its repeats.
+#[test]
+fn what_they_show() {
+    let both = Both::new();
+    for (name, file) in examples() {
+        let bytes = both.run(&file, right_len(&file)).unwrap_or_default();
+        let shown = |at: usize| {
+            let mut shown: Vec<_> = bytes.chunks(10).map(|answer| answer[at]).collect();
+            shown.dedup();
+            shown
+        };
+        let [alerts, voice, guidance] = [0, 1, 8].map(shown);
+        match name {
+            "calm" | "gust" => assert_eq!([alerts, voice, guidance], [[0]; 3], "{name}"),
+            "microburst" => {
+                assert_eq!(alerts, [0, 1, 0, 2, 0]);
+                assert_eq!(voice, [0, 1, 2, 3, 0]);
+                assert_eq!(guidance, [0, 1, 0]);
+            }
+            "plateau" => {
+                assert_eq!(alerts, [0, 2, 0]);
+                assert_eq!(voice, [0, 1, 2, 3]);
+                assert_eq!(guidance, [0, 1]);
+            }
+            _ => assert!(bytes.is_empty(), "{name}"),
+        }
+    }
     both.done();
 }

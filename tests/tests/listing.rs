@@ -8,12 +8,15 @@ use windshear_tests::gen::{all_lists, Rng, CALM};
 fn every_listing_is_the_references() {
     let both = Both::new();
     let mut rng = Rng::new(23);
+    let (mut red, mut amber) = (0, 0);
     for (i, (_, list)) in all_lists().into_iter().enumerate() {
         if i % 5 != 0 || list.len() > 2_600 {
             continue;
         }
         let mut file = file_of_samples(&list);
-        both.listing(&file);
+        let text = both.listing(&file);
+        red += text.matches(" red ").count();
+        amber += text.matches(" amber 0 ").count();
         if !file.is_empty() {
             let at = rng.draw() as usize % file.len();
             file[at] ^= 1 << (rng.draw() % 8);
@@ -28,5 +31,7 @@ fn every_listing_is_the_references() {
         whole.resize(length, 0);
         both.listing(&whole);
     }
+    println!("of the lines, {red} are red and {amber} amber");
+    assert!(red > 30_000 && amber > 10_000);
     both.done();
 }

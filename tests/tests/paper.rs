@@ -1,16 +1,35 @@
-//! Every worked figure of the scope paper, held against the reference and the library; quoted names are its sections.
+//! Every worked figure of the scope paper, as request A1 of paper 02 changed it, held against the reference and the library;
+//! quoted names are the scope paper's sections.
 
-use windshear_tests::both::Both;
+use windshear_tests::both::{Both, Pair};
+use windshear_tests::files::file_of_samples;
 use windshear_tests::gen::*;
 use windshear_tests::library::cut;
-use windshear_tests::reference::{self, read_record, Answer, Record, Sample, RANGES, WINDOWS};
+use windshear_tests::reference::{self, read_record, Answer, Record, Sample, CUT, RANGES, WINDOWS};
+
+/// The places of the answers with this alert.
+fn with_alert(answers: &[Answer], alert: u8) -> Vec<usize> {
+    let lit = |&i: &usize| answers[i].alert == alert;
+    (0..answers.len()).filter(lit).collect()
+}
 
 /// The samples with this alert.
 fn lit(both: &Both, list: &[Sample], alert: u8) -> Vec<usize> {
-    let answers = both.play(list);
-    (0..list.len())
-        .filter(|&i| answers[i].alert == alert)
-        .collect()
+    with_alert(&both.play(list), alert)
+}
+
+/// The answers after the exposure that `met` begins with, which is dark and silent itself.
+fn after_exposure(both: &Both, list: &[Sample]) -> Vec<Answer> {
+    let mut answers = both.play(list);
+    let after = answers.split_off(EXPOSURE as usize);
+    let dark = |a: &Answer| (a.alert, a.voice, a.guidance) == (0, 0, false);
+    assert!(answers.iter().all(dark));
+    after
+}
+
+/// The samples with this alert, counted from the end of the exposure.
+fn lit_after(both: &Both, list: &[Sample], alert: u8) -> Vec<usize> {
+    with_alert(&after_exposure(both, list), alert)
 }
 
 fn span(from: usize, to: usize) -> Vec<usize> {
@@ -105,13 +124,11 @@ fn windows_met(both: &Both, list: &[Sample], sign: i64) -> Vec<usize> {
     for s in list {
         pair.offer(s).unwrap();
     }
-    let is_met = |&(samples, value): &(usize, i64)| {
-        let sum = pair.state.entries().take(samples).map(i64::from).sum();
-        assert_eq!(pair.unit.window_sum(samples), sum);
-        sign * sum >= samples as i64 * value
-    };
-    WINDOWS.iter().filter(|w| is_met(w)).map(|w| w.0).collect()
+    pair.windows_met(sign)
 }
+
+/// The samples of a dip at the cut.
+const DIP: i32 = 20;
 
 /// "The six windows": each is met alone at its value and not with one less held; a dip before
 /// the plateau keeps the longer ones out.
@@ -129,52 +146,58 @@ fn windows_alone() {
         );
         let after_dip = |held: i64, sign: i32| {
             let (vertical, airspeed) = plateaus(held as i32)[0];
-            plateau(
-                3,
-                -sign * 20_000,
-                samples as i32 + 20,
-                (sign * vertical, airspeed),
+            plateau(DIP, DIP, samples as i32 + 20, (sign * vertical, airspeed))
+        };
+        // So many samples of the plateau.
+        let met_after = |held, n: usize, sign: i32| {
+            windows_met(
+                &both,
+                &after_dip(held, sign)[..DIP as usize + n],
+                sign.into(),
             )
         };
         for (sign, _) in WAYS {
-            assert_eq!(
-                windows_met(&both, &after_dip(value, sign)[..3 + samples], sign.into()),
-                [samples]
-            );
-            assert!(
-                windows_met(&both, &after_dip(value, sign)[..2 + samples], sign.into()).is_empty()
-            );
-            assert!(windows_met(
-                &both,
-                &after_dip(value - 1, sign)[..3 + samples],
-                sign.into()
-            )
-            .is_empty());
+            assert_eq!(met_after(value, samples, sign), [samples]);
+            assert!(met_after(value, samples - 1, sign).is_empty());
+            assert!(met_after(value - 1, samples, sign).is_empty());
         }
-        // Counted from the dip, the red lamp comes on at the window's last sample, or with the next window.
-        let first_red = |held| lit(&both, &after_dip(held, 1), 2).first().map(|at| at - 2);
-        assert_eq!(first_red(value), Some(samples));
-        assert_eq!(
-            first_red(value - 1),
-            (samples < 200).then_some(samples + 20)
-        );
+        // Counted from the dip, the lamp comes on at the window's last sample; or with the next window,
+        // where that sums to its limit in spite of what it has of the dip.
+        let first = |held, sign, alert| {
+            let lit = lit(&both, &after_dip(held, sign), alert);
+            lit.first().map(|at| at + 1 - DIP as usize)
+        };
+        let next = (k > 0).then(|| {
+            let (longer, least) = WINDOWS[k - 1];
+            let sum = |n| n as i64 * (value - 1) - (longer - n) as i64 * i64::from(CUT);
+            (samples..longer)
+                .find(|&n| sum(n) >= longer as i64 * least)
+                .unwrap()
+        });
+        for (sign, alert) in WAYS {
+            assert_eq!(first(value, sign, alert), Some(samples));
+            assert_eq!(first(value - 1, sign, alert), next);
+        }
     }
     both.done();
 }
 
-/// "The six windows": one step of 2,000 meets the 8 and 6 second windows, 1,999 none.
+/// 02, A1: one step of 2,000 meets no window, though its held shear is shown and is no less than the 8 and 6 second
+/// windows ask for; nor do 1,999 and the largest step.
 #[test]
 fn one_step() {
     let both = Both::new();
-    for (sign, alert) in WAYS {
-        let step = |size: i32| stepped(230, &[(5, sign * size)], |_, _| ());
-        assert_eq!(
-            windows_met(&both, &step(2_000)[..6], sign.into()),
-            [160, 120]
-        );
-        assert_eq!(lit(&both, &step(2_000), alert), span(5, 164));
-        assert!(windows_met(&both, &step(1_999)[..6], sign.into()).is_empty());
-        assert!(both.play(&step(1_999)).iter().all(|a| a.alert == 0));
+    for (sign, _) in WAYS {
+        for (size, held) in [(2_000, 2_098_349), (1_999, 2_097_300), (40_000, 41_966_987)] {
+            let steps = [(0, -sign * size / 2), (5, sign * size)];
+            let mut pair = both.fresh("one step");
+            for (i, s) in stepped(230, &steps, |_, _| ()).iter().enumerate() {
+                let answer = pair.offer(s).unwrap();
+                assert_eq!(answer.shear, if i == 5 { sign * held } else { 0 });
+                assert_eq!(answer.alert, 0);
+                assert!(pair.windows_met(sign.into()).is_empty());
+            }
+        }
     }
     assert_eq!((160 * 13_110, 120 * 17_480), (2_097_600, 2_097_600));
     both.done();
@@ -206,8 +229,8 @@ fn band() {
     let both = Both::new();
     for (sign, alert) in WAYS {
         for (height, on) in [(49, false), (50, true), (1_000, true), (1_001, false)] {
-            let at_height = lit(&both, &met(sign, 3, |_, s| s.height = height), alert);
-            assert_eq!(at_height, if on { vec![1, 2] } else { vec![] });
+            let at_height = lit_after(&both, &met(sign, 3, |_, s| s.height = height), alert);
+            assert_eq!(at_height, if on { vec![0, 1, 2] } else { vec![] });
         }
         let entering = series(260, |i, s| {
             (s.vertical, s.airspeed) = (-sign * 1_050, 10_000);
@@ -218,15 +241,31 @@ fn band() {
     both.done();
 }
 
-/// "The six windows": both conditions may hold at once; red then shows alone.
+/// "The six windows": both conditions may hold at once; red then shows alone. By 02, A1, only the entries of a lent state
+/// are large enough for it: the part of a longer window that is not in a shorter one has at most 100 entries, and would
+/// have to sum to both limits.
 #[test]
 fn both_conditions() {
     let both = Both::new();
-    let list = stepped(160, &[(5, -16_000), (135, 4_000)], |_, _| ());
-    assert_eq!(windows_met(&both, &list[..136], 1), [120, 100]);
-    assert_eq!(windows_met(&both, &list[..136], -1), [200, 180, 160, 140]);
-    assert_eq!(lit(&both, &list, 1), span(5, 134));
-    assert_eq!(lit(&both, &list, 2), span(135, 159));
+    let least = WINDOWS.map(|(samples, value)| samples as i64 * value);
+    let least = least.into_iter().min().unwrap();
+    assert!((200 - 100) * i64::from(CUT) < 2 * least);
+    // What steps of -16,000 and, 130 samples later, 4,000 hold.
+    let mut entries = [0; 200];
+    (entries[0], entries[130]) = (4_196_698, -16_786_795);
+    let mut pair = both.holding("both conditions", &entries);
+    assert_eq!(pair.windows_met(1), [120, 100]);
+    assert_eq!(pair.windows_met(-1), [200, 180, 160, 140]);
+    let alerts = |pair: &mut Pair, n| -> Vec<u8> {
+        let calm = [CALM].into_iter().cycle().take(n);
+        calm.map(|s| pair.offer(&s).unwrap().alert).collect()
+    };
+    assert_eq!(alerts(&mut pair, 70), [2; 70]);
+    assert!(pair.windows_met(-1).is_empty());
+    // Without the younger entry amber shows, until the older one has left the last window.
+    entries[0] = 0;
+    let mut pair = both.holding("amber alone", &entries);
+    assert_eq!(alerts(&mut pair, 70), [[1; 69].as_slice(), &[0]].concat());
     both.done();
 }
 
@@ -236,7 +275,7 @@ fn lamp_hold() {
     let both = Both::new();
     for (sign, alert) in WAYS {
         let lit_with = |at: &[i32]| {
-            lit(
+            lit_after(
                 &both,
                 &condition_at(sign, 200, |i| at.contains(&i), |_, _| ()),
                 alert,
@@ -250,32 +289,55 @@ fn lamp_hold() {
     both.done();
 }
 
+/// The samples of `turned` before its turn.
+const TURN: i32 = 120;
+
+/// Samples at the cut one way, then the other way. Counted from the turn, the first condition holds to 58
+/// (of 200 samples, 120 less 59 are 61), the second from 80 on (of 100, 81 less 19 are 62).
+fn turned(first: i32, in_band: impl Fn(i32) -> bool) -> Vec<Sample> {
+    stretches(&[(first, TURN), (-first, 190)], |i, s| {
+        s.height = if in_band(i - TURN) { 400 } else { 1_001 }
+    })
+}
+
 /// "Lamps and voice": amber is dark while red is lit; after red it comes on only by its condition.
 #[test]
 fn amber_and_red() {
     let both = Both::new();
-    let lamps = |steps: &[(i32, i32)], in_band: &dyn Fn(i32) -> bool| {
-        let list = stepped(150, steps, |i, s| {
-            s.height = if in_band(i) { 400 } else { 1_001 }
-        });
-        (lit(&both, &list, 1), lit(&both, &list, 2))
+    let lamps = |first: i32, in_band: &dyn Fn(i32) -> bool| {
+        let answers = both.play(&turned(first, in_band));
+        let answers = &answers[TURN as usize..];
+        (with_alert(answers, 1), with_alert(answers, 2))
     };
-    let amber_first = [(5, -2_000), (15, 12_000)];
+    let turns = |first, alert: u8, at: i32| {
+        let (amber, red) = lamps(first, &|i| i == at);
+        if alert == 1 {
+            amber
+        } else {
+            red
+        }
+    };
+    for (sign, alert) in WAYS {
+        assert_eq!(turns(sign, alert, 58), span(58, 117));
+        assert!(turns(sign, alert, 59).is_empty());
+        assert!(turns(-sign, alert, 79).is_empty());
+        assert_eq!(turns(-sign, alert, 80), span(80, 139));
+    }
     assert_eq!(
-        lamps(&amber_first, &|i| i == 5 || i == 15),
-        (span(5, 14), span(15, 74))
+        lamps(-1, &|i| i == 30 || i == 80),
+        (span(30, 79), span(80, 139))
     );
-    // Red at 5, then the amber condition wherever the height is in the band.
-    let red_first = [(5, 2_000), (15, -12_000)];
-    let at = |places: &'static [i32]| lamps(&red_first, &|i| places.contains(&i));
-    assert_eq!(at(&[5, 50]), (vec![], span(5, 64)));
-    assert_eq!(at(&[5, 50, 65]), (span(65, 124), span(5, 64)));
-    assert_eq!(lamps(&red_first, &|_| true), (span(65, 149), span(5, 64)));
+    // Red at 50, then the amber condition wherever the height is in the band.
+    let at = |places: &'static [i32]| lamps(1, &|i| places.contains(&i));
+    assert_eq!(at(&[50, 95]), (vec![], span(50, 109)));
+    assert_eq!(at(&[50, 95, 110]), (span(110, 169), span(50, 109)));
+    assert_eq!(lamps(1, &|i| i >= 50), (span(110, 189), span(50, 109)));
     both.done();
 }
 
 fn voices(both: &Both, list: &[Sample]) -> Vec<u8> {
-    both.play(list).iter().map(|a| a.voice).collect()
+    let answers = after_exposure(both, list);
+    answers.iter().map(|a| a.voice).collect()
 }
 
 /// Silence, then the three cycles, cut or filled with silence to a length.
@@ -361,9 +423,9 @@ fn voice_and_mode() {
     both.done();
 }
 
-/// Red from sample 1; the commands from there on, None while off.
+/// Red from sample 0 after the exposure; the commands from there on, None while off.
 fn commands(both: &Both, n: i32, edit: impl Fn(i32, &mut Sample)) -> Vec<Option<i32>> {
-    commands_of(both, &met(1, n + 1, |i, s| edit(i - 1, s)))[1..].to_vec()
+    commands_of(both, &met(1, n, edit))
 }
 
 fn commands_of(both: &Both, list: &[Sample]) -> Vec<Option<i32>> {
@@ -371,7 +433,7 @@ fn commands_of(both: &Both, list: &[Sample]) -> Vec<Option<i32>> {
         assert!(a.guidance || a.command == 0);
         a.guidance.then_some(a.command)
     };
-    both.play(list).iter().map(shown).collect()
+    after_exposure(both, list).iter().map(shown).collect()
 }
 
 /// "Escape pitch": the worked figures.
@@ -545,21 +607,24 @@ fn accessors() {
         ),
         (0, 0, 0, 0)
     );
-    assert_eq!(unit.last_held(3), [0, 0, 0]);
-    for (i, s) in met(1, 1_000, |i, s| s.climb = (i >= 500).into())
-        .iter()
-        .enumerate()
-    {
-        pair.offer(s).unwrap();
+    assert_eq!(unit.last_entries(3), [0, 0, 0]);
+    let list = met(1, 1_000, |i, s| {
+        s.climb = (i >= 500).into();
+        // a gust at the second sample
+        s.along = if i > -EXPOSURE { 2_000 } else { 0 };
+    });
+    let mut shears = Vec::new();
+    for (i, s) in list.iter().enumerate() {
+        shears.push(pair.offer(s).unwrap().shear);
         let unit = &pair.unit;
-        let i = i as u64;
+        let lit = (i as u64 + 1).saturating_sub(EXPOSURE as u64);
         assert_eq!(
             (unit.red_lit_for(), unit.voice_since(), unit.amber_lit_for()),
-            (i, i, 0)
+            (lit, lit, 0)
         );
         assert_eq!(
             unit.guidance_counted(),
-            (i > 0).then_some((i + 1).saturating_sub(500))
+            (lit > 0).then_some(lit.saturating_sub(500))
         );
     }
     let unit = &pair.unit;
@@ -567,15 +632,15 @@ fn accessors() {
         (unit.last_along(), unit.last_mode()),
         (Some(2_000), Some(1))
     );
-    assert_eq!(
-        unit.last_held(1_001)[998..],
-        [2_098_349 + 71_429, 71_429, 0]
-    );
+    // The answers show what is held, and the windows have it cut.
+    assert_eq!(shears[..3], [71_429, 2_098_349 + 71_429, 71_429]);
+    let entries = unit.last_entries(list.len() + 1);
+    assert_eq!(entries[list.len() - 3..], [CUT, CUT, CUT, 0]);
     pair.offer(&Sample { mode: 0, ..CALM }).unwrap();
     let unit = &pair.unit;
     assert_eq!(
         (unit.voice_since(), unit.red_lit_for(), unit.last_mode()),
-        (0, 1_000, Some(0))
+        (0, 1_001, Some(0))
     );
     both.done();
 }
@@ -689,20 +754,46 @@ fn written_bytes() {
     both.done();
 }
 
-/// "The run file": 10 bytes per record.
+/// The file of `n` samples after an exposure, the last of them calm.
+fn exposed(sign: i32, n: i32) -> Vec<u8> {
+    let calm_end = |i, s: &mut Sample| {
+        if i == n - 1 {
+            s.vertical = 0;
+        }
+    };
+    file_of_samples(&met(sign, n, calm_end))
+}
+
+/// "The run file": 10 bytes per record, the held shear uncut (02, A1).
 #[test]
 fn answer_bytes() {
     let both = Both::new();
     let expected = [
         [0, 0, 0, 0, 0, 0, 0, 0, 0, 0],
-        [2, 1, 0x88, 0x13, 0xad, 0x04, 0x20, 0x00, 1, 0],
-        [2, 1, 0xd3, 0x13, 0xe7, 0x1b, 0x00, 0x00, 1, 0],
+        [0, 0, 0, 0, 0xad, 0x04, 0x20, 0x00, 0, 0],
+        [0, 0, 0, 0, 0xe7, 0x1b, 0x00, 0x00, 0, 0],
     ];
     assert_eq!(
         both.run(&file(&both, &example()), 30),
         Ok(expected.concat())
     );
     assert_eq!(both.run(&file(&both, &[]), 0), Ok(vec![]));
+    // After an exposure the lamp is lit: by 71,429 either way, then at a calm sample.
+    let expected = [
+        [
+            [2, 1, 0x88, 0x13, 0x05, 0x17, 0x01, 0x00, 1, 0],
+            [2, 1, 0xd3, 0x13, 0x00, 0x00, 0x00, 0x00, 1, 0],
+        ],
+        [
+            [1, 0, 0, 0, 0xfb, 0xe8, 0xfe, 0xff, 0, 0],
+            [1, 0, 0, 0, 0, 0, 0, 0, 0, 0],
+        ],
+    ];
+    for ((sign, _), lit) in WAYS.into_iter().zip(expected) {
+        let count = EXPOSURE as usize + 2;
+        let bytes = both.run(&exposed(sign, 2), 10 * count).unwrap();
+        assert_eq!(bytes[10 * (count - 2)..], lit.concat());
+    }
     both.done();
 }
 
@@ -881,13 +972,17 @@ fn header_refusals() {
     both.done();
 }
 
-/// "The listing": its example, a refusal, an empty run, and input that is too long.
+/// "The listing": its example, a lamp that comes on, a refusal, an empty run, and input that is too long.
 #[test]
 fn listings() {
     let both = Both::new();
     let example_text = "sample shear alert voice command\n\
-        0 0 none 0 off\n1 2098349 red 1 5000\n2 7143 red 1 5075\nred 1 amber 0\n";
+        0 0 none 0 off\n1 2098349 none 0 off\n2 7143 none 0 off\nred 0 amber 0\n";
     assert_eq!(both.listing(&file(&both, &example())), example_text);
+    let red = "59 71429 none 0 off\n60 71429 red 1 5000\n61 0 red 1 5075\nred 1 amber 0\n";
+    assert!(both.listing(&exposed(1, 2)).ends_with(red));
+    let amber = "59 -71429 none 0 off\n60 -71429 amber 0 off\n61 0 amber 0 off\nred 0 amber 1\n";
+    assert!(both.listing(&exposed(-1, 2)).ends_with(amber));
     assert_eq!(
         both.listing(&file(&both, &[])),
         "sample shear alert voice command\nred 0 amber 0\n"
@@ -904,14 +999,26 @@ fn listings() {
 #[test]
 fn listing_totals() {
     let both = Both::new();
-    // Amber from 5, red from 15 for 60 samples, amber again from 75 by the larger step at 20.
-    let list = stepped(400, &[(5, -2_000), (15, 12_000), (20, -25_000)], |_, _| ());
-    let record = |s: &Sample| Record {
-        along: (s.along as f32 / 100.0).to_bits(),
-        ..example()[0]
-    };
-    let records: Vec<_> = list.iter().map(record).collect();
-    let text = both.listing(&file(&both, &records));
-    assert_eq!(text.lines().last(), Some("red 1 amber 2"));
+    let three = [(-1, 70), (1, 100), (-1, 100)];
+    for (list, alerts, total) in [
+        (
+            stretches(&three, |_, _| ()),
+            &[0, 1, 0, 2, 0, 1][..],
+            "red 1 amber 2",
+        ),
+        // the one straight after the other
+        (
+            turned(-1, |i| i == 30 || i == 80),
+            &[0, 1, 2, 0],
+            "red 1 amber 1",
+        ),
+        (turned(1, |i| i >= 50), &[0, 2, 1], "red 1 amber 1"),
+    ] {
+        let mut shown: Vec<_> = both.play(&list).iter().map(|a| a.alert).collect();
+        shown.dedup();
+        assert_eq!(shown, alerts);
+        let text = both.listing(&file_of_samples(&list));
+        assert_eq!(text.lines().last(), Some(total));
+    }
     both.done();
 }

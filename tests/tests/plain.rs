@@ -10,12 +10,15 @@ use windshear_tests::library::refused;
 use windshear_tests::plain::{self, Totals};
 use windshear_tests::reference::{self, refusal};
 
-/// What has been compared: runs, answers of ten bytes, totals; and how often each number came.
+/// What has been compared: runs, answers of ten bytes, totals, how often lamps came on in all; and how
+/// often each number came.
 #[derive(Default)]
 struct Compared {
     runs: u64,
     answers: u64,
     totals: u64,
+    red: u64,
+    amber: u64,
     came: BTreeMap<u8, u64>,
 }
 
@@ -42,20 +45,24 @@ impl Compared {
             assert_eq!(reference::listing(file).lines().last(), Some(&*last));
         }
         self.runs += 1;
-        if totals.is_some() {
+        if let Some(totals) = totals {
             self.answers += len as u64 / 10;
             self.totals += 1;
+            self.red += u64::from(totals.red);
+            self.amber += u64::from(totals.amber);
         }
         *self.came.entry(number).or_default() += 1;
     }
 
-    /// Prints the line, and tests that exactly these numbers came, and at least so many runs and answers.
+    /// Prints the line, and tests that exactly these numbers came, at least so many runs and answers, and
+    /// lamps of both kinds.
     fn done(&self, what: &str, numbers: impl IntoIterator<Item = u8>, runs: u64, answers: u64) {
         let compared = self.runs + self.answers + self.totals;
         println!(
-            "compared {compared} outcomes, answers and totals of {} {what}, by number {:?}",
-            self.runs, self.came
+            "compared {compared} outcomes, answers and totals of {} {what}: red {} amber {}, by number {:?}",
+            self.runs, self.red, self.amber, self.came
         );
+        assert!(self.red > 500 && self.amber > 500);
         assert!(self.came.keys().copied().eq(numbers));
         assert!(self.runs >= runs && self.answers >= answers);
     }

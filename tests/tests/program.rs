@@ -194,7 +194,7 @@ fn an_interrupted_read_is_tried_again() {
 #[test]
 fn a_listing_that_cannot_be_written_is_a_fault() {
     let folder = folder("unwritten");
-    let (gust, text) = example("gust20");
+    let (gust, text) = example("microburst");
     let input = || File::open(&gust).unwrap();
     let full = || OpenOptions::new().write(true).open("/dev/full").unwrap();
     let closed_pipe = || std::io::pipe().unwrap().1;

@@ -305,15 +305,22 @@ fn readme_example() {
         let there = source.lines().any(|own| own.trim() == line.trim());
         assert!(there, "README.md has {line}");
     }
+    // a change of 33 at each sample is cut, so that 61 of them light a lamp and 60 do not
+    let changing = |by, n| (0..=n).map(|i| by * i).collect::<Vec<i32>>();
+    let and = |mut along_winds: Vec<i32>, last| {
+        along_winds.push(last);
+        along_winds
+    };
     let lamps = [
-        (&[][..], Alert::None),
-        (&[0], Alert::None),
-        (&[0, 2_000], Alert::Red),
-        (&[0, 2_000, 20_001], Alert::Red),
-        (&[0, -2_000, -20_001], Alert::Amber),
+        (vec![], Alert::None),
+        (vec![0, 2_000], Alert::None),
+        (changing(33, EXPOSURE), Alert::None),
+        (changing(33, EXPOSURE + 1), Alert::Red),
+        (and(changing(33, EXPOSURE + 1), 20_001), Alert::Red),
+        (and(changing(-33, EXPOSURE + 1), -20_001), Alert::Amber),
     ];
-    for (along_winds, lamp) in lamps {
-        assert_eq!(offer::lamp_after(along_winds), lamp, "{along_winds:?}");
+    for (along_winds, lamp) in &lamps {
+        assert_eq!(offer::lamp_after(along_winds), *lamp, "{along_winds:?}");
     }
     let calm = sent_record(&record_of(&CALM, 0.0));
     assert_eq!(offer::answer_to(&calm), Ok(vec![0; 10]));

@@ -6,7 +6,7 @@ use windshear_tests::both::Both;
 use windshear_tests::forged::{bases, random_entries, step, LIMIT};
 use windshear_tests::gen::{gusts, long_lists, with_refused, Rng, CALM, LONG};
 use windshear_tests::library::{entries, expected, sent, state_of, summed, with_entries};
-use windshear_tests::reference::{Unit, WINDOWS};
+use windshear_tests::reference::{entry, Unit, WINDOWS};
 
 /// A hundred turns of the ring: every answer and every state is that of the reference, which keeps a plain list.
 #[test]
@@ -201,8 +201,8 @@ fn read_from_another_place() {
     println!("compared {compared} answers and states of rings read from another place");
 }
 
-/// A state whose ring and sums a host builds from the shears that it was answered, as the header says, the
-/// rest of the core taken over, is as good as the one that the samples left.
+/// A state whose ring and sums a host builds from the shears that it was answered, each cut (02, A1), as the
+/// header says, the rest of the core taken over, is as good as the one that the samples left.
 #[test]
 fn built_by_the_host() {
     let mut rng = Rng::new(84);
@@ -212,17 +212,18 @@ fn built_by_the_host() {
     ] {
         let mut unit = Unit::new();
         let mut state = State::fresh();
-        let mut shears = Vec::new();
+        let mut cut = Vec::new();
         for s in gusts(&mut rng, samples) {
-            shears.push(unit.offer(&s).unwrap().shear);
-            assert_eq!(state.offer_lent(sent(&s)).refusal, 0);
+            let answer = state.offer_lent(sent(&s));
+            assert_eq!(answer, expected(&unit.offer(&s)));
+            cut.push(entry(answer.shear));
         }
-        let newest_first = || shears.iter().rev().copied().take(200);
+        let newest_first = || cut.iter().rev().copied().take(200);
         for place in [0, 1, 57, 198, 199] {
             let mut built = State::fresh();
             built.core = state.core;
-            for (i, shear) in newest_first().enumerate() {
-                built.held[(place + i) % 200] = shear;
+            for (i, entry) in newest_first().enumerate() {
+                built.held[(place + i) % 200] = entry;
             }
             built.core.place = place as u16;
             built.core.sums = Sums::of(newest_first());

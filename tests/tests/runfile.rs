@@ -48,11 +48,13 @@ fn ties_go_away_from_zero() {
     both.done();
 }
 
-/// Calls of the reference and the library, and how often each number came. What is refused has no bytes.
+/// Calls of the reference and the library, how often each number came, and how many of the answers that
+/// runs gave have each alert. What is refused has no bytes.
 #[derive(Default)]
 struct Tally {
     both: Both,
     came: BTreeMap<u16, u64>,
+    alerts: [u64; 3],
 }
 
 impl Tally {
@@ -80,6 +82,9 @@ impl Tally {
             Err((number, place)) => (refused(number, place as usize), Vec::new()),
         };
         self.count(outcome.refusal);
+        for answer in bytes.chunks(10) {
+            self.alerts[usize::from(answer[0])] += 1;
+        }
         (outcome, bytes)
     }
 
@@ -94,10 +99,16 @@ impl Tally {
 
     /// Prints the line, and tests that exactly these numbers came.
     fn done(&self, what: &str, numbers: &[RangeInclusive<u16>]) {
-        let Tally { both, came } = self;
+        let Tally { both, came, alerts } = self;
         let (compared, calls) = (both.compared(), came.values().sum::<u64>());
-        println!("compared {compared} answers and buffers of {calls} {what}, by number {came:?}");
+        println!("compared {compared} answers and buffers of {calls} {what}, by number {came:?}, by alert {alerts:?}");
         assert!(came.keys().copied().eq(numbers.iter().cloned().flatten()));
+    }
+
+    /// Tests that at least so many answers are amber, and red.
+    fn lit(&self, least: u64) {
+        let [_, amber, red] = self.alerts;
+        assert!(amber >= least && red >= least);
     }
 }
 
@@ -123,6 +134,7 @@ fn lists_written_and_run() {
     }
     written.done("headers and records written", &[0..=0, 11..=20]);
     run.done("files read back", &[0..=0]);
+    run.lit(150_000);
 }
 
 #[test]
@@ -256,6 +268,7 @@ fn damaged_files() {
         tally.record(&read_record(&raw), 24);
     }
     tally.done("damaged files and random records", &[0..=7, 11..=20]);
+    tally.lit(20_000);
 }
 
 /// 01, "The six windows": the test rows of 000 through whole runs, each exposure flat, made by the
@@ -294,4 +307,5 @@ fn test_rows() {
         }
     }
     tally.done("files of the test rows", &[0..=0]);
+    tally.lit(5_000);
 }

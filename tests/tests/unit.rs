@@ -6,6 +6,7 @@ use windshear_tests::both::Both;
 use windshear_tests::forged::{forged, step, LIMIT};
 use windshear_tests::gen::{self, all_lists};
 use windshear_tests::library::{expected, sent, with_entries};
+use windshear_tests::reference::CUT;
 
 /// At every sample of every list the answer and the state are the reference's, within the bounds that refusal 8 names; and the
 /// lists reach every event. The events are told by the reference's counters, which do not stop.
@@ -14,10 +15,11 @@ fn every_list_answers_and_leaves_what_the_reference_does() {
     let both = Both::new();
     let mut refusals = HashSet::new();
     let mut seen = BTreeMap::new();
+    let mut answers = 0u64;
     for (name, list) in all_lists() {
         let mut pair = both.fresh(&name);
         let mut last = None;
-        let (mut red_for, mut counted) = (0, None);
+        let (mut red_for, mut amber_for, mut counted) = (0, 0, None);
         for s in &list {
             let answer = match pair.offer(s) {
                 Ok(answer) => answer,
@@ -26,6 +28,7 @@ fn every_list_answers_and_leaves_what_the_reference_does() {
                     continue;
                 }
             };
+            answers += 1;
             let unit = &pair.unit;
             assert!(answer.shear.abs() <= 50_000_000);
             assert!((-30_000..=27_000).contains(&answer.command));
@@ -38,11 +41,17 @@ fn every_list_answers_and_leaves_what_the_reference_does() {
             let events = [
                 ("red", answer.alert == 2),
                 ("amber", answer.alert == 1),
+                ("voice", answer.voice > 0),
+                ("guidance", answer.guidance),
+                ("cut above", answer.shear > CUT),
+                ("cut below", answer.shear < -CUT),
                 ("voice 3", answer.voice == 3),
                 ("voice after red", answer.voice > 0 && answer.alert != 2),
                 ("red past its hold", unit.red_lit_for() > 60),
                 ("red out at its hold", red_for == 60 && answer.alert != 2),
                 ("amber past its hold", unit.amber_lit_for() > 60),
+                ("red after amber", comes_on && amber_for > 0),
+                ("amber after red", unit.amber_lit_for() == 1 && red_for > 0),
                 ("coming-on with a mode change", comes_on && mode_change),
                 (
                     "coming-on without voice",
@@ -74,15 +83,34 @@ fn every_list_answers_and_leaves_what_the_reference_does() {
                 ("command below zero", answer.command < -10_000),
             ];
             for (event, happened) in events {
-                *seen.entry(event).or_insert(0) += u32::from(happened);
+                *seen.entry(event).or_insert(0) += u64::from(happened);
             }
-            (last, red_for, counted) = (Some(s.mode), unit.red_lit_for(), unit.guidance_counted());
+            (last, counted) = (Some(s.mode), unit.guidance_counted());
+            (red_for, amber_for) = (unit.red_lit_for(), unit.amber_lit_for());
         }
     }
     assert_eq!(refusals, (11..=20).collect());
     assert!(seen.values().all(|&times| times > 0), "{seen:?}");
+    // so that nothing agrees only because all is dark, or nothing is cut
+    let common = [
+        "red",
+        "amber",
+        "voice",
+        "guidance",
+        "cut above",
+        "cut below",
+    ];
+    let [red, amber, voice, guidance, above, below] = common.map(|event| seen[event]);
+    println!(
+        "of {answers} answers: {red} red, {amber} amber, {voice} with voice, {guidance} with guidance on; \
+         {above} cut above, {below} cut below"
+    );
+    assert!(answers > 1_500_000 && amber > 150_000 && below > 150_000);
+    assert!([red, voice, guidance, above]
+        .iter()
+        .all(|&times| times > 200_000));
     both.done();
-    assert!(both.compared() > 4_000_000);
+    assert!(both.compared() > 6_000_000);
 }
 
 fn calm() -> Sample {

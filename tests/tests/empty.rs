@@ -1,0 +1,110 @@
+//! Slices of length 0: what Rust makes of `&[]` and of a buffer's end is answered as the reference answers no bytes, and no byte
+//! beside it is touched.
+
+use windshear::{FileTest, Outcome, Unread};
+use windshear_tests::both::Both;
+use windshear_tests::files::{calm_file, calm_with, file_of_samples, record_of};
+use windshear_tests::gen::CALM;
+use windshear_tests::library::{refused, sent_record};
+use windshear_tests::reference;
+
+/// Lends each kind of empty slice that there is, and compares the answers; what stands beside it stays.
+fn lent<T: PartialEq + std::fmt::Debug>(call: impl Fn(&mut [u8]) -> T, want: T) -> u64 {
+    let mut buf: [u8; 8] = [1, 2, 3, 4, 5, 6, 7, 8];
+    let before = buf;
+    assert_eq!(call(&mut []), want);
+    assert_eq!(call(&mut Vec::new()), want);
+    for at in [0, 4, 8] {
+        assert_eq!(call(&mut buf[at..at]), want, "at {at}");
+        assert_eq!(buf, before, "at {at}");
+    }
+    5
+}
+
+/// As `lent`, of slices that are only read.
+fn read<T: PartialEq + std::fmt::Debug>(call: impl Fn(&[u8]) -> T, want: T) -> u64 {
+    lent(|empty| call(empty), want)
+}
+
+/// No file is shorter than 8 bytes, so one of none is refused by 1, with or without room for answers.
+#[test]
+fn empty_files() {
+    let mut compared = 0;
+    assert_eq!(reference::test_file(&[]), Err((1, 0)));
+    let short = FileTest {
+        refusal: 1,
+        ..FileTest::default()
+    };
+    compared += read(windshear::test_file, short);
+    for place in [0, 1, usize::MAX] {
+        compared += read(
+            |file| windshear::read_record(file, place),
+            Err(Unread::Refused(1)),
+        );
+    }
+    for len in [0, 1, 10, 26_000] {
+        assert_eq!(reference::run(&[], len), Err((1, 0)));
+        let mut answers = vec![9; len];
+        let before = answers.clone();
+        compared += read(
+            |file| windshear::run(file, &mut answers.clone()),
+            refused(1u8, 0),
+        );
+        assert_eq!(windshear::run(&[], &mut answers), refused(1u8, 0));
+        assert!(answers == before);
+    }
+    println!("compared {compared} answers to empty files");
+}
+
+/// A run of no records has an answer buffer of length 0, and is good; every other run is refused by 7 there, if by nothing before.
+#[test]
+fn empty_answer_buffers() {
+    let mut compared = 0;
+    let bad = file_of_samples(&[CALM, reference::Sample { mode: 2, ..CALM }]);
+    for (file, number) in [
+        (calm_file(0), 0u8),
+        (calm_file(1), 7),
+        (calm_file(2_600), 7),
+        (calm_file(2_601), 5),
+        (bad, 7),
+        (calm_file(0)[..7].to_vec(), 1),
+        (calm_file(1)[..31].to_vec(), 6),
+        (vec![], 1),
+    ] {
+        let want = reference::run(&file, 0);
+        assert_eq!(
+            want,
+            if number == 0 {
+                Ok(vec![])
+            } else {
+                Err((number, 0))
+            }
+        );
+        let outcome = refused(number, 0);
+        compared += lent(|answers| windshear::run(&file, answers), outcome);
+    }
+    let none = calm_file(0);
+    assert_eq!(windshear::run(&none, &mut []), Outcome::default());
+    assert_eq!(windshear::test_file(&none), FileTest::default());
+    assert_eq!(windshear::read_record(&none, 0), Err(Unread::NoSuchPlace));
+    println!("compared {compared} outcomes with empty answer buffers");
+}
+
+/// Nothing is written into no bytes: 7, where 5 does not come before it.
+#[test]
+fn empty_buffers_to_write() {
+    let both = Both::new();
+    let mut compared = 0;
+    for count in [0, 1, 2_600, 2_601, u32::MAX] {
+        let number = both.write_header(count, 0).unwrap_err();
+        assert_eq!(number, if count > 2_600 { 5 } else { 7 });
+        compared += lent(|buf| windshear::write_header(count, buf), number.into());
+    }
+    for record in [record_of(&CALM, 0.0), calm_with(9, 2)] {
+        assert_eq!(both.write_record(&record, 0), Err(7));
+        let record = sent_record(&record);
+        compared += lent(|buf| windshear::write_record(&record, buf), 7);
+    }
+    println!("compared {compared} answers to empty buffers");
+    both.done();
+}
