@@ -1,6 +1,9 @@
 //! How the benchmarks time what they compare.
 
+use std::ffi::{c_char, c_int, c_void, CString};
+use std::mem::transmute;
 use std::time::Instant;
+use windshear::Outcome;
 
 /// The median time of each pass in milliseconds. They are timed by turns, one pass of each in every
 /// round, so that what slows the machine meanwhile slows them alike. A first round is not counted.
@@ -29,4 +32,40 @@ pub fn report(what: &str, library: f64, plain: f64, reference: f64) {
         library / plain,
         library / reference
     );
+}
+
+extern "C" {
+    fn dlopen(path: *const c_char, flags: c_int) -> *mut c_void;
+    fn dlsym(library: *mut c_void, name: *const c_char) -> *mut c_void;
+}
+
+/// `windshear_run` of the library as it was at an earlier commit.
+pub struct Earlier(extern "C" fn(*const u8, usize, *mut u8, usize) -> Outcome);
+
+impl Earlier {
+    /// From a shared object that holds that library, so that its names do not meet those of today's.
+    pub fn open(path: &str) -> Earlier {
+        let path = CString::new(path).expect("a path has no zero byte");
+        const RTLD_NOW: c_int = 2;
+        // SAFETY: both names end in a zero byte. The function has the type that include/windshear.h gives it.
+        unsafe {
+            let library = dlopen(path.as_ptr(), RTLD_NOW);
+            assert!(!library.is_null(), "{path:?} can't be opened");
+            let run = dlsym(library, c"windshear_run".as_ptr());
+            assert!(!run.is_null(), "{path:?} has no windshear_run");
+            Earlier(transmute::<
+                *mut c_void,
+                extern "C" fn(*const u8, usize, *mut u8, usize) -> Outcome,
+            >(run))
+        }
+    }
+
+    pub fn run(&self, file: &[u8], answers: &mut [u8]) -> Outcome {
+        (self.0)(
+            file.as_ptr(),
+            file.len(),
+            answers.as_mut_ptr(),
+            answers.len(),
+        )
+    }
 }

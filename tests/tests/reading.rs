@@ -292,19 +292,10 @@ fn damaged_files() {
     tally.done("damaged files and random bytes", &[1..=6, 11..=20]);
 }
 
-/// The Rust example: README.md's lines are its own; a refused sample leaves the lamp as it was; the
-/// bytes of a calm record's answer.
+/// The Rust example: an exposure lights a lamp and a gust does not; a refused sample leaves the lamp
+/// as it was; the bytes of a calm record's answer.
 #[test]
-fn readme_example() {
-    let readme = include_str!("../../README.md");
-    let source = include_str!("../../bindings/rust/examples/offer.rs");
-    let section = readme.split("### From Rust\n").nth(1).unwrap();
-    let shown = section.lines().take_while(|line| !line.starts_with('#'));
-    let shown: Vec<_> = shown.filter_map(|line| line.strip_prefix("    ")).collect();
-    for line in &shown {
-        let there = source.lines().any(|own| own.trim() == line.trim());
-        assert!(there, "README.md has {line}");
-    }
+fn rust_example() {
     // a change of 33 at each sample is cut, so that 61 of them light a lamp and 60 do not
     let changing = |by, n| (0..=n).map(|i| by * i).collect::<Vec<i32>>();
     let and = |mut along_winds: Vec<i32>, last| {
@@ -333,7 +324,5 @@ fn readme_example() {
     forged.core.red = 601;
     assert_eq!(forged.offer_lent(sent(&CALM)).lamp(), Err(STATE));
     offer::main();
-    assert!(shown.len() > 5);
-    let compared = shown.len() + lamps.len() + 3;
-    println!("compared {compared} lines and answers of the Rust example");
+    println!("compared {} answers of the Rust example", lamps.len() + 3);
 }

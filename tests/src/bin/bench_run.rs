@@ -1,27 +1,27 @@
 //! A whole run of each of three files of 2,600 records: the library, the plain program and the reference by turns.
+//! With an argument, a shared object that holds an earlier library, today's, that one and the plain program by turns as well.
 
 use std::hint::black_box;
 use windshear::Outcome;
-use windshear_tests::bench::{medians, report};
+use windshear_tests::bench::{medians, report, Earlier};
 use windshear_tests::files::file_of_samples;
 use windshear_tests::gen::{calm_air, gusts, turbulence, Rng};
 use windshear_tests::{plain, reference};
 
 fn main() {
+    let earlier = std::env::args().nth(1).map(|path| Earlier::open(&path));
+    let earlier = earlier.as_ref();
     // calm: small random changes, no lamp; turbulent: strong random changes at every sample; gusty: winds
     // that wander and jump, with changes of mode, height and climb
-    measure(
-        "calm",
-        &file_of_samples(&calm_air(&mut Rng::new(61), 2_600)),
-    );
-    measure(
-        "turbulent",
-        &file_of_samples(&turbulence(&mut Rng::new(62), 2_600)),
-    );
-    measure("gusty", &file_of_samples(&gusts(&mut Rng::new(60), 2_600)));
+    let calm = calm_air(&mut Rng::new(61), 2_600);
+    measure("calm", &file_of_samples(&calm), earlier);
+    let turbulent = turbulence(&mut Rng::new(62), 2_600);
+    measure("turbulent", &file_of_samples(&turbulent), earlier);
+    let gusty = gusts(&mut Rng::new(60), 2_600);
+    measure("gusty", &file_of_samples(&gusty), earlier);
 }
 
-fn measure(name: &str, file: &[u8]) {
+fn measure(name: &str, file: &[u8], earlier: Option<&Earlier>) {
     let (mut by_library, mut by_plain) = (vec![0; 26_000], vec![1; 26_000]);
     assert_eq!(windshear::run(file, &mut by_library), Outcome::default());
     assert!(plain::run(file, &mut by_plain).is_ok());
@@ -47,6 +47,21 @@ fn measure(name: &str, file: &[u8]) {
         medians(201, [&mut library, &mut plain, &mut reference]);
     let what = format!("2,600 records, {name}");
     report(&what, by_turns, plain_by_turns, reference_by_turns);
+    if let Some(earlier) = earlier {
+        let mut by_earlier = vec![0; 26_000];
+        assert_eq!(earlier.run(file, &mut by_earlier), Outcome::default());
+        let mut before = || {
+            black_box(earlier.run(black_box(file), &mut by_earlier));
+        };
+        let [now, before, plain] = medians(401, [&mut library, &mut before, &mut plain]);
+        println!(
+            "{what}, beside the earlier library: now {now:.3} ms, earlier {before:.3} ms, plain {plain:.3} ms; \
+             now / plain {:.2}, earlier / plain {:.2}, now / earlier {:.2}",
+            now / plain,
+            before / plain,
+            now / before
+        );
+    }
     // each alone, one pass straight after another
     let ([library], [plain]) = (medians(201, [&mut library]), medians(201, [&mut plain]));
     println!(
