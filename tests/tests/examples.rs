@@ -54,3 +54,29 @@ fn what_they_show() {
     }
     both.done();
 }
+
+/// README's listings: the gust's whole, and of the microburst's the lines where the alert, the voice or guidance changes.
+#[test]
+fn readme_listings() {
+    let readme = include_str!("../../README.md");
+    let blocks = readme.split("```text\n").skip(1);
+    let blocks = blocks.filter_map(|block| block.split("```").next());
+    let shown: Vec<&str> = blocks.filter(|b| b.starts_with("sample ")).collect();
+    let stored = |name: &str| fs::read_to_string(format!("{FOLDER}/{name}.txt")).unwrap();
+    assert_eq!(shown.len(), 2);
+    assert_eq!(shown[0], stored("gust"));
+
+    let changes = stored("microburst");
+    let mut last = None;
+    let changes = changes.lines().filter(|line| {
+        let fields: Vec<_> = line.split(' ').collect();
+        let now = (fields[2..4].to_vec(), fields.get(4) == Some(&"off"));
+        last.replace(now.clone()) != Some(now)
+    });
+    let changes: Vec<_> = changes.collect();
+    assert_eq!(shown[1].lines().collect::<Vec<_>>(), changes);
+    println!(
+        "compared {} lines of README's listings",
+        changes.len() + shown[0].lines().count()
+    );
+}
