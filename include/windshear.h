@@ -9,7 +9,7 @@
  * WARNING: an answer to a refused sample has alert 0, which says nothing of the lamps: they stay as they were. A host that
  * shows `alert` without a look at `refusal` would darken a lit lamp.
  *
- * Twenty samples make a second. A program that lights the red lamp by five seconds at 140 kt in a downdraft of 29.4 kt, a shear
+ * Twenty samples make a second. A program that lights the red lamp after five seconds at 140 kt in a downdraft of 29.4 kt, a shear
  * of 0.2100, and keeps it lit at a sample that is refused:
  *
  *    #include <stdio.h>
@@ -51,7 +51,7 @@ extern "C" {
 /* The bytes that windshear_run writes for each record. A struct windshear_answer is another thing, and larger. */
 #define WINDSHEAR_ANSWER_SIZE 10
 
-/* The most of a held shear that enters the windows, either way, in hundred-thousandths. */
+/* A held shear is cut to between minus this and this as it enters the windows; in hundred-thousandths. */
 #define WINDSHEAR_ENTRY_LIMIT 34500
 
 /* The refusal numbers, in the order tested: what `refusal` holds, and what a writer answers. */

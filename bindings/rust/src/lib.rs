@@ -46,7 +46,7 @@ pub const RECORD_SIZE: usize = 24;
 pub const MAX_RECORDS: usize = 2_600;
 /// The bytes that [`run`] writes for each record. An [`Answer`] is another thing, and larger.
 pub const ANSWER_SIZE: usize = 10;
-/// The most of a held shear that enters the windows, either way, in hundred-thousandths: see [`State`].
+/// A held shear is cut to between minus this and this as it enters the windows; in hundred-thousandths: see [`State`].
 pub const ENTRY_LIMIT: i32 = 34_500;
 
 /// One sample; twenty make a second. A field may hold any value; each says what is accepted. The default is all zeros, and is refused.

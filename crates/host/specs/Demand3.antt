@@ -8,7 +8,7 @@
 --
 -- The claim is over every history of calls, and knows of a call only what the function of its form promises: any answers and any states that meet
 -- the promises will do. So it is not a claim about a single call, nor about one way to meet the promises. Averages are of exact shears, unrounded,
--- from the list alone: a unit that rounded or stored them wrongly would still be held to it.
+-- "cut at plus and minus 0.34500" (02, A1), from the list alone: a unit that rounded, cut or stored them wrongly would still be held to it.
 use mathlib.Core.List.{List, [], _∷_, map}
 use mathlib.Core.Bool.{true, cond}
 use mathlib.Core.Path.{_≡_}

@@ -1,4 +1,4 @@
--- Laws of the cut: what it gives, that no test against a number within the bound sees it, and how it goes with rounding.
+-- Laws of the cut: what it gives, that a test against a number within the bound comes out the same, and that it may come before rounding or after.
 use mathlib.Core.Path.{_≡_, refl, sym, ap, _∙_}
 use mathlib.Core.Bool.{Bool, true, false, cond}
 use Prim.Native.Nat.{ℕ, suc, _+_, _*_, _≤_, _<_}
@@ -7,54 +7,51 @@ use native.Mathlib.Omega.{arith}
 use lib.IntN.{ℤ, pos, negsuc, negℤ, natAbs, _*ℤ_}
 use lib.Signed.{leZ, ltZ, _≤ℤ_}
 use Rattle.rounding.specs.Claims.{RoundsInOrder, RoundsThenCuts}
-use Rattle.rounding.specs.Cut.{cut, negF, ltF, cutF}
-use Rattle.rounding.specs.Fraction.{Fraction, _over_, timesF, roundF, Positive}
+use Rattle.rounding.specs.Cut.{cut, cutF}
+use Rattle.rounding.specs.Fraction.{Fraction, _over_, negF, timesF, ltF, roundF, Positive}
 use Rattle.rounding.proofs.Difference.{up, down, any, nat, negD, *D, eqD, leD, ltD, ofLe, ofLt, sizeD, ofSize}
 use Rattle.rounding.proofs.Fits.{size-neg}
-use Rattle.rounding.proofs.Order.{lt-ltZ, le-ltZ, le-leZ, lt-leZ, ltZ-true, ltZ-false}
+use Rattle.rounding.proofs.Order.{lt-ltZ, le-ltZ, le-leZ, lt-leZ, ltZ-true, ltZ-le, ltZ-false}
 use Rattle.rounding.proofs.Rounding.{round-whole, round-neg, rounds-in-order}
 
 -- ════ Where a number lies ════
 
-abbrev neg : ℕ → ℤ
-neg k = negℤ (pos k)
-
 -- at the lower bound or below it, at the upper one or above it, or between them
 data Side (k : ℕ) (x : ℤ) : Type 0 where
-  low : x ≤ℤ neg k → Side k x
+  low : x ≤ℤ negℤ (pos k) → Side k x
   high : pos k ≤ℤ x → Side k x
-  between : neg k ≤ℤ x → x ≤ℤ pos k → Side k x
+  between : negℤ (pos k) ≤ℤ x → x ≤ℤ pos k → Side k x
 
 side : (k : ℕ) (x : ℤ) → Side k x
-side k x = go (ltZ x (neg k)) (ltZ (pos k) x) refl refl
+side k x = go (ltZ x (negℤ (pos k))) (ltZ (pos k) x) refl refl
   where
-    go : (s t : Bool) → ltZ x (neg k) ≡ s → ltZ (pos k) x ≡ t → Side k x
-    go true t e f = let h = ofLt (ltZ-true x (neg k) e) (any x) (negD (nat k)) in low (leD (any x) (negD (nat k)) (omega (arith, h)))
-    go false true e f = let h = ofLt (ltZ-true (pos k) x f) (nat k) (any x) in high (leD (nat k) (any x) (omega (arith, h)))
-    go false false e f = between (ltZ-false x (neg k) e) (ltZ-false (pos k) x f)
+    go : (s t : Bool) → ltZ x (negℤ (pos k)) ≡ s → ltZ (pos k) x ≡ t → Side k x
+    go true t e f = low (ltZ-le x (negℤ (pos k)) e)
+    go false true e f = high (ltZ-le (pos k) x f)
+    go false false e f = between (ltZ-false x (negℤ (pos k)) e) (ltZ-false (pos k) x f)
 
 -- ════ What the cut gives ════
 
-pub cut-between : (k : ℕ) (x : ℤ) → neg k ≤ℤ x → x ≤ℤ pos k → cut k x ≡ x
+pub cut-between : (k : ℕ) (x : ℤ) → negℤ (pos k) ≤ℤ x → x ≤ℤ pos k → cut k x ≡ x
 unfolding cut
 cut-between k x h l = rw (le-ltZ h, le-ltZ l)
 
-pub cut-low : (k : ℕ) (x : ℤ) → x ≤ℤ neg k → cut k x ≡ neg k
+pub cut-low : (k : ℕ) (x : ℤ) → x ≤ℤ negℤ (pos k) → cut k x ≡ negℤ (pos k)
 unfolding cut
-cut-low k x h = go (ltZ x (neg k)) refl
+cut-low k x h = go (ltZ x (negℤ (pos k))) refl
   where
-    go : (t : Bool) → ltZ x (neg k) ≡ t → cut k x ≡ neg k
+    go : (t : Bool) → ltZ x (negℤ (pos k)) ≡ t → cut k x ≡ negℤ (pos k)
     go true e = rw e
     go false e =
         let a = ofLe h (any x) (negD (nat k)) in
-        let b = ofLe (ltZ-false x (neg k) e) (negD (nat k)) (any x) in
-        cut-between k x (ltZ-false x (neg k) e) (leD (any x) (nat k) (omega (arith, a))) ∙ eqD (any x) (negD (nat k)) (omega (arith, a, b))
+        let b = ofLe (ltZ-false x (negℤ (pos k)) e) (negD (nat k)) (any x) in
+        cut-between k x (ltZ-false x (negℤ (pos k)) e) (leD (any x) (nat k) (omega (arith, a))) ∙ eqD (any x) (negD (nat k)) (omega (arith, a, b))
 
 pub cut-high : (k : ℕ) (x : ℤ) → pos k ≤ℤ x → cut k x ≡ pos k
 unfolding cut
 cut-high k x h = go (ltZ (pos k) x) refl
   where
-    above : neg k ≤ℤ x
+    above : negℤ (pos k) ≤ℤ x
     above = leD (negD (nat k)) (any x) (omega (arith, ofLe h (nat k) (any x)))
 
     go : (t : Bool) → ltZ (pos k) x ≡ t → cut k x ≡ pos k
@@ -163,17 +160,11 @@ rounds-then-cuts k d f p q = go (ltF f (negF b)) (ltF b f) refl refl
     whole : roundF b ≡ pos k
     whole = round-whole (pos k) d p
 
-    turned : roundF (negF b) ≡ neg k
+    turned : roundF (negF b) ≡ negℤ (pos k)
     turned = round-neg (pos (k * d)) d ∙ ap negℤ whole
 
     go : (s t : Bool) → ltF f (negF b) ≡ s → ltF b f ≡ t → cut k (roundF f) ≡ roundF (cond s (negF b) (cond t b f))
-    go true t e g =
-        let h = ofLt (ltZ-true _ _ e) (*D (any (f .num)) (nat d)) (*D (negD (nat (k * d))) (nat (f .den))) in
-        let l = leD (*D (any (f .num)) (nat d)) (*D (negD (nat (k * d))) (nat (f .den))) (omega (arith, h)) in
-        cut-low k (roundF f) (rw turned at (rounds-in-order f (negF b) q p l)) ∙ sym turned
-    go false true e g =
-        let h = ofLt (ltZ-true _ _ g) (*D (nat (k * d)) (nat (f .den))) (*D (any (f .num)) (nat d)) in
-        let l = leD (*D (nat (k * d)) (nat (f .den))) (*D (any (f .num)) (nat d)) (omega (arith, h)) in
-        cut-high k (roundF f) (rw whole at (rounds-in-order b f p q l)) ∙ sym whole
+    go true t e g = cut-low k (roundF f) (rw turned at (rounds-in-order f (negF b) q p (ltZ-le _ _ e))) ∙ sym turned
+    go false true e g = cut-high k (roundF f) (rw whole at (rounds-in-order b f p q (ltZ-le _ _ g))) ∙ sym whole
     go false false e g =
         cut-between k (roundF f) (rw turned at (rounds-in-order (negF b) f p q (ltZ-false _ _ e))) (rw whole at (rounds-in-order f b q p (ltZ-false _ _ g)))

@@ -1,9 +1,11 @@
 -- The tests of order on signed numbers, to and from the orders that they decide.
 use mathlib.Core.Path.{_≡_, refl, sym, subst}
 use mathlib.Core.Bool.{Bool, true, false, not}
+use native.Mathlib.Omega.{arith}
 use lib.Dec.{T}
 use lib.IntN.{ℤ}
 use lib.Signed.{leZ, ltZ, _≤ℤ_, _<ℤ_, leZ-yes, ltZ-yes, ltZ-no, clashℤ}
+use Rattle.rounding.proofs.Difference.{any, leD, ofLt}
 
 is-true : (b : Bool) → T b → b ≡ true
 is-true true t = refl
@@ -27,6 +29,9 @@ lt-leZ {a} {b} h = is-false (leZ a b) (λ t. clashℤ h (leZ-yes t))
 
 pub ltZ-true : (a b : ℤ) → ltZ a b ≡ true → a <ℤ b
 ltZ-true a b e = ltZ-yes (subst T (sym e) tt)
+
+pub ltZ-le : (a b : ℤ) → ltZ a b ≡ true → a ≤ℤ b
+ltZ-le a b e = leD (any a) (any b) (omega (arith, ofLt (ltZ-true a b e) (any a) (any b)))
 
 pub ltZ-false : (a b : ℤ) → ltZ a b ≡ false → b ≤ℤ a
 ltZ-false a b e = ltZ-no (subst (λ (t : Bool). T (not t)) (sym e) tt)

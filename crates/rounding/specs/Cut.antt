@@ -1,20 +1,13 @@
 -- The cut at a bound either way, of whole numbers and of fractions (02, A1; the run file's hundredths).
-use mathlib.Core.Bool.{Bool, cond}
+use mathlib.Core.Bool.{cond}
 use Prim.Native.Nat.{ℕ}
-use lib.IntN.{ℤ, pos, negℤ, _*ℤ_}
+use lib.IntN.{ℤ, pos, negℤ}
 use lib.Signed.{ltZ}
-use Rattle.rounding.specs.Fraction.{Fraction, _over_}
+use Rattle.rounding.specs.Fraction.{Fraction, negF, ltF}
 
 -- a whole number cut to between -k and k
 unfoldable pub cut : ℕ → ℤ → ℤ
 cut k x = cond (ltZ x (negℤ (pos k))) (negℤ (pos k)) (cond (ltZ (pos k) x) (pos k) x)
-
--- a fraction with its sign turned; whether one is below another, multiplied out
-abbrev pub negF : Fraction → Fraction
-negF f = negℤ (f .num) over f .den
-
-abbrev pub ltF : Fraction → Fraction → Bool
-ltF a b = ltZ (a .num *ℤ pos (b .den)) (b .num *ℤ pos (a .den))
 
 -- a fraction cut to between -b and b
 unfoldable pub cutF : Fraction → Fraction → Fraction

@@ -1,8 +1,9 @@
 -- Fractions: "a whole number over a positive one; two are added and compared by multiplying out" (01, "The list in demand 3").
+use mathlib.Core.Bool.{Bool}
 use mathlib.Core.List.{List, [], _∷_}
 use Prim.Native.Nat.{ℕ, _*_, _<_}
-use lib.IntN.{ℤ, pos, _+ℤ_, _-ℤ_, _*ℤ_}
-use lib.Signed.{_≤ℤ_, _<ℤ_}
+use lib.IntN.{ℤ, pos, negℤ, _+ℤ_, _-ℤ_, _*ℤ_}
+use lib.Signed.{ltZ, _≤ℤ_, _<ℤ_}
 use Rattle.rounding.specs.Rounding.{roundAway}
 
 pub record Fraction : Type 0 where
@@ -19,6 +20,9 @@ a +F b = (a .num *ℤ pos (b .den) +ℤ b .num *ℤ pos (a .den)) over (a .den *
 
 abbrev pub _-F_ : Fraction → Fraction → Fraction
 a -F b = (a .num *ℤ pos (b .den) -ℤ b .num *ℤ pos (a .den)) over (a .den * b .den)
+
+abbrev pub negF : Fraction → Fraction
+negF f = negℤ (f .num) over f .den
 
 abbrev pub zeroF : Fraction
 zeroF = pos 0 over 1
@@ -40,6 +44,10 @@ a ≤F b = (a .num *ℤ pos (b .den)) ≤ℤ (b .num *ℤ pos (a .den))
 
 abbrev pub _<F_ : Fraction → Fraction → Type 0
 a <F b = (a .num *ℤ pos (b .den)) <ℤ (b .num *ℤ pos (a .den))
+
+-- the test of it
+abbrev pub ltF : Fraction → Fraction → Bool
+ltF a b = ltZ (a .num *ℤ pos (b .den)) (b .num *ℤ pos (a .den))
 
 -- to the nearest whole number, ties away from zero
 abbrev pub roundF : Fraction → ℤ

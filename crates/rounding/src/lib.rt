@@ -1,4 +1,4 @@
-// One rule: a fraction to the nearest whole number, ties away from zero (01, "Shear"). And the cut at a bound either way, which goes with it.
+// One rule: a fraction to the nearest whole number, ties away from zero (01, "Shear"); and a number cut at a bound either way (02, A1).
 ghost use mathlib.Core.Path.{_≡_};
 ghost use Prim.Native.Nat.{_<_, _≤_, _^_};
 ghost use lib.IntN.{pos, negℤ, natAbs};

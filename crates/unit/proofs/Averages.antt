@@ -5,11 +5,11 @@ use mathlib.Core.Bool.{Bool, true, false, _||_}
 use mathlib.Core.List.{List, [], _∷_, _++_, map, List·Memᴰ, List·Memᴰ·head, List·Memᴰ·tail}
 use mathlib.Core.Path.{_≡_, refl, sym, ap, _∙_}
 use Prim.Native.Nat.{ℕ, zero, suc, _+_, _*_, _≤_, _<_}
-use native.Mathlib.Nat.{zero-mul, le-of-mul-le-mul-right, lt-of-mul-lt-mul-left, mul-comm, mul-pos}
+use native.Mathlib.Nat.{zero-mul, le-of-mul-le-mul-right, lt-of-mul-lt-mul-left, mul-pos}
 use native.Mathlib.Omega.{arith}
 use borrow.Author.Tests.{ltb-true}
 use lib.Dec.{ltb, lit<}
-use lib.IntN.{ℤ, pos, natAbs, _+ℤ_, _-ℤ_, _*ℤ_}
+use lib.IntN.{ℤ, pos, natAbs, _-ℤ_, _*ℤ_}
 use lib.ListN.{length, take, replicate, length-append, length-replicate}
 use lib.Seq.{length-take-le}
 use lib.Signed.{_≤ℤ_, _<ℤ_}
@@ -156,7 +156,7 @@ module _ (l : List Sample) (ok : AllPositive (entries exact l)) where
   table-positive table e w m =
       let n : 0 < w .samples = ltb-true 0 (w .samples) (every-member _ table w e m) in
       let d = mul-pos (divisor (w .samples)) n in
-      (d, (lit< tt, (lit< tt, (lit< tt, (mul-pos d (lit< tt), positive-entries)))))
+      ((d, (lit< tt, (lit< tt, (lit< tt, (mul-pos d (lit< tt), positive-entries))))), ok)
 
   reached-met : (w : Window) → Reaches l w → metUp (entries entry l) w ≡ true
   unfolding Reaches tableValue tolerance averageOf average metUp limit

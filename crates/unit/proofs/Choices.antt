@@ -8,8 +8,8 @@ use borrow.Author.Tests.{lt-ltb, le-ltb, leb-true, leb-false}
 use lib.Dec.{ltb, leb}
 use lib.IntN.{ℤ, pos, negsuc}
 use lib.Signed.{ltZ, leZ, _≤ℤ_, ≤ℤ-refl}
-use Rattle.rounding.proofs.Difference.{any, leD, ofLe, ofLt}
-use Rattle.rounding.proofs.Order.{ltZ-true, ltZ-false}
+use Rattle.rounding.proofs.Difference.{any, leD, ofLe}
+use Rattle.rounding.proofs.Order.{ltZ-le, ltZ-false}
 use Rattle.unit.specs.Choice.{firstOf, smaller, larger}
 
 -- what holds of each of two, where the test picks it, holds of the one that is picked
@@ -40,10 +40,6 @@ ltZ-not (pos a) (negsuc b) = refl
 ltZ-not (negsuc a) (pos b) = refl
 ltZ-not (negsuc a) (negsuc b) = ltb-not b a
 
--- a test's value as an order
-pub below-le : (a b : ℤ) → ltZ a b ≡ true → a ≤ℤ b
-below-le a b e = leD (any a) (any b) (omega (arith, ofLt (ltZ-true a b e) (any a) (any b)))
-
 pub ≤ℤ-trans : {a b c : ℤ} → a ≤ℤ b → b ≤ℤ c → a ≤ℤ c
 ≤ℤ-trans {a} {b} {c} h k = leD (any a) (any c) (omega (arith, ofLe h (any a) (any b), ofLe k (any b) (any c)))
 
@@ -53,7 +49,7 @@ smaller-le-left a b = cond-has (λ (x : ℤ). x ≤ℤ a) (ltZ a b) (λ e. ≤�
 
 pub smaller-le-right : (a b : ℤ) → smaller a b ≤ℤ b
 unfolding smaller
-smaller-le-right a b = cond-has (λ (x : ℤ). x ≤ℤ b) (ltZ a b) (below-le a b) (λ e. ≤ℤ-refl b)
+smaller-le-right a b = cond-has (λ (x : ℤ). x ≤ℤ b) (ltZ a b) (ltZ-le a b) (λ e. ≤ℤ-refl b)
 
 pub smaller-ge : {m a b : ℤ} → m ≤ℤ a → m ≤ℤ b → m ≤ℤ smaller a b
 unfolding smaller
@@ -61,4 +57,4 @@ smaller-ge {m} {a} {b} h k = cond-has (λ (x : ℤ). m ≤ℤ x) (ltZ a b) (λ e
 
 pub larger-ge-left : (a b : ℤ) → a ≤ℤ larger a b
 unfolding larger
-larger-ge-left a b = cond-has (λ (x : ℤ). a ≤ℤ x) (ltZ a b) (below-le a b) (λ e. ≤ℤ-refl a)
+larger-ge-left a b = cond-has (λ (x : ℤ). a ≤ℤ x) (ltZ a b) (ltZ-le a b) (λ e. ≤ℤ-refl a)

@@ -27,7 +27,7 @@ unfolding heldShear exactShear
 shear-fraction c v (pos a) t = refl
 shear-fraction c v (negsuc a) t = absurd t
 
--- refusal 8's bound: a held shear is within 50,000,000
+-- a held shear is within 50,000,000, so that it fits 32 bits
 pub shear-le : (c v a : ℤ) → natAbs c ≤ 40000 → natAbs v ≤ 10000 → 6000 ≤ natAbs a → natAbs (heldShear c v a) ≤ 50000000
 unfolding heldShear exactShear
 shear-le c v a hc hv ha =

@@ -10,7 +10,7 @@ use lib.IntN.{ℤ, pos}
 use lib.ListN.{length}
 use lib.Signed.{_≤ℤ_}
 use Rattle.rounding.specs.Fraction.{Fraction, _over_, _+F_, _≤F_, _<F_, AllPositive}
-use Rattle.unit.specs.Rules.{refusal, held, entry, exactEntry, entries, Window, windows, inBand, lastOf, average, redLit, amberLit, voice, guidance, isOn, commandOf}
+use Rattle.unit.specs.Rules.{refusal, held, exact, entry, exactEntry, entries, Window, windows, inBand, lastOf, average, redLit, amberLit, voice, guidance, isOn, commandOf}
 use Rattle.unit.specs.Steps.{freshCore, freshState, readFrom, sumsOf, shearOf, entryOf, coreWith, windowsOf, shownBy, answerOf, ringFits, passes, refusedOf, refusalOf, offerOf}
 use Rattle.unit.specs.declared.Answer.{Answer}
 use Rattle.unit.specs.declared.Core.{Core}
@@ -138,7 +138,7 @@ unfoldable pub tableValue : Window → Fraction
 tableValue w = pos (w .value) over 100000
 
 -- "the exact average of the shear over each of the six windows, as a fraction, with nothing before the start counted as anything but zero". "Demand 3
--- then reads averages of exact shears cut at plus and minus 0.34500" (02, A1): of the exact entries
+-- then reads averages of exact shears cut at plus and minus 0.34500" (02, A1): so of `exactEntry`
 unfoldable pub averageOf : Window → List Sample → Fraction
 averageOf w l = average (w .samples) (entries exactEntry l)
 
@@ -150,11 +150,12 @@ Reaches l w = (tableValue w +F tolerance) ≤F averageOf w l
 unfoldable pub Below : List Sample → Window → Type 0
 Below l w = (averageOf w l +F tolerance) <F tableValue w
 
--- "A fraction here is a whole number over a positive one; two are added and compared by multiplying out" (01): every fraction that `Reaches` and
--- `Below` add or compare has a positive divisor, the entries included
+-- "A fraction here is a whole number over a positive one; two are added and compared by multiplying out" (01): every fraction that `exactEntry`,
+-- `Reaches` and `Below` add or compare has a positive divisor
 unfoldable pub PositiveDivisors : List Sample → Window → Type 0
 PositiveDivisors l w =
     AllPositive (averageOf w l ∷ tableValue w ∷ tolerance ∷ (tableValue w +F tolerance) ∷ (averageOf w l +F tolerance) ∷ entries exactEntry l)
+    × AllPositive (entries exact l)
 
 -- the alert that the last accepted sample's answer showed; 0 where there was none
 unfoldable pub lastAlert : List Sample → ℕ

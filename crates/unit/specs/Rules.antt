@@ -1,4 +1,4 @@
--- Paper 01 as rules over the list of accepted samples alone, the newest first: no state, no counter that stops, no array.
+-- Paper 01, with A1 of 02, as rules over the list of accepted samples alone, the newest first: no state, no counter that stops, no array.
 -- `before` is the list of the accepted samples before the one at hand. The sections stand in the paper's order; refusals 11 to 20 and the exact
 -- average stand with what they speak of.
 use mathlib.Core.Bool.{Bool, true, false, not, _&&_, _||_, cond}
@@ -93,7 +93,7 @@ exactShear c vertical airspeed = (c *ℤ pos 18520) over 1765197 -F vertical ove
 unfoldable pub heldShear : ℤ → ℤ → ℤ → ℤ
 heldShear c vertical airspeed = roundF (timesF 100000 (exactShear c vertical airspeed))
 
--- a sample's held shear, which its answer shows; and its exact one
+-- a sample's held shear, which its answer shows; and its exact one, "the formula above, unrounded" (01, "The list in demand 3")
 unfoldable pub held : Sample → List Sample → ℤ
 held s before = heldShear (change s before) (s .vertical) (s .airspeed)
 

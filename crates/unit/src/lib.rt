@@ -52,7 +52,8 @@ pub struct Core {
     pub place: u16,
 }
 
-// The unit's state: the last two hundred entries, held shears as they were cut, as a ring, the newest at the core's place and each older one a place on, round; and the core.
+// The unit's state: the last two hundred entries (held shears, cut) as a ring, the newest at the core's place and each older one a place on, round;
+// and the core.
 #[repr(C)]
 pub struct State {
     pub held: [i32; 200],

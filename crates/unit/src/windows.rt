@@ -1,4 +1,4 @@
-// The windows: a ring of the last two hundred entries, and a running sum for each window (01, "The six windows"; 02, A9).
+// The windows: a ring of the last two hundred entries, and a running sum for each window (01, "The six windows"; 02, A1 and A9).
 ghost use mathlib.Core.Path.{_≡_};
 ghost use mathlib.Core.Bool.{_||_};
 ghost use Prim.Native.Nat.{_*_, _≤_, _<_};
