@@ -121,11 +121,11 @@ struct windshear_core {
 
 /* The state that the host keeps and lends. Memory that is all zeros is the fresh state.
  *
- * Its entries are the held shears of the last 200 accepted samples, 0 before the first. The unit cuts each to between
- * -WINDSHEAR_ENTRY_LIMIT and WINDSHEAR_ENTRY_LIMIT as it enters, so that one sharp gust by itself lights no lamp; an answer's
- * `shear` is not cut. They are a ring: the newest stands at `core.place`, each older one a place further on, and after place 199
- * comes place 0. The next entry is written one place back, over the oldest, and is the newest then: from the fresh state the
- * first one goes to place 199.
+ * Its entries are what the last 200 accepted samples entered into the windows, 0 before the first: the held shear of each, which
+ * the unit cuts to between -WINDSHEAR_ENTRY_LIMIT and WINDSHEAR_ENTRY_LIMIT, so that one sharp gust by itself lights no lamp; an
+ * answer's `shear` is not cut. They are a ring: the newest stands at `core.place`, each older one a place further on, and after
+ * place 199 comes place 0. The next entry is written one place back, over the oldest, and is the newest then: from the fresh state
+ * the first one goes to place 199.
  *
  * It is refused by 8 where an entry is beyond 50,000,000 either way, a counter is above 600, the command, the last along wind,
  * the last mode or the place is outside its range above, or a sum is not that of its window's entries.

@@ -251,8 +251,8 @@ pub fn calm_air(rng: &mut Rng, n: i32) -> Vec<Sample> {
     })
 }
 
-/// Turbulence: strong random changes of both winds and of the airspeed at every sample, half of them
-/// beyond the cut. Drafts of some seconds below them light lamps.
+/// Turbulence: strong random changes of both winds and of the airspeed at every sample, more than half of
+/// them beyond the cut. Drafts of some seconds below them light lamps.
 pub fn turbulence(rng: &mut Rng, n: i32) -> Vec<Sample> {
     let (mut rough, mut draft) = (40, 0);
     series(n, |_, s| {

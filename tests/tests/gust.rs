@@ -6,7 +6,7 @@ use windshear_tests::files::file_of_samples;
 use windshear_tests::forged::{random_entries, LIMIT};
 use windshear_tests::gen::*;
 use windshear_tests::plain;
-use windshear_tests::reference::{shear, Answer, Sample, CUT, WINDOWS};
+use windshear_tests::reference::{entry, shear, Answer, Sample, CUT, WINDOWS};
 
 /// What a list is answered, the held shears that the answers show, and the entry of each sample.
 struct Told {
@@ -373,7 +373,7 @@ fn lent_entries_beyond_the_cut() {
         let mut plain: Vec<_> = held.iter().rev().copied().collect();
         for (i, s) in list.iter().enumerate() {
             let answer = pair.offer(s).unwrap();
-            plain.push(answer.shear.clamp(-CUT, CUT));
+            plain.push(entry(answer.shear));
             let newest = plain.iter().rev().copied().take(200);
             assert!(pair.state.entries().eq(newest), "{name}: entries after {i}");
             let [up, down] = [1, -1].map(|sign| met_in(&plain[plain.len() - 200..], sign)[199]);

@@ -194,8 +194,8 @@ fn an_interrupted_read_is_tried_again() {
 #[test]
 fn a_listing_that_cannot_be_written_is_a_fault() {
     let folder = folder("unwritten");
-    let (gust, text) = example("microburst");
-    let input = || File::open(&gust).unwrap();
+    let (burst, text) = example("microburst");
+    let input = || File::open(&burst).unwrap();
     let full = || OpenOptions::new().write(true).open("/dev/full").unwrap();
     let closed_pipe = || std::io::pipe().unwrap().1;
     let limit = "trap '' XFSZ; ulimit -f 1";
@@ -213,12 +213,12 @@ fn a_listing_that_cannot_be_written_is_a_fault() {
             run_to(after(limit, &program()).stdin(input()), File::create(folder.join("program")).unwrap()),
             by_program("File too large"),
         ),
-        ("./list, full", run_to(&mut list(&gust), full()), by_list("No space left on device")),
-        ("./list, closed", run(&mut after("exec >&-", &list(&gust))), left(2, "", closed)),
-        ("./list, closed pipe", run_to(&mut list(&gust), closed_pipe()), by_list("Broken pipe")),
+        ("./list, full", run_to(&mut list(&burst), full()), by_list("No space left on device")),
+        ("./list, closed", run(&mut after("exec >&-", &list(&burst))), left(2, "", closed)),
+        ("./list, closed pipe", run_to(&mut list(&burst), closed_pipe()), by_list("Broken pipe")),
         (
             "./list, too large",
-            run_to(&mut after("ulimit -f 1", &list(&gust)), File::create(folder.join("list")).unwrap()),
+            run_to(&mut after("ulimit -f 1", &list(&burst)), File::create(folder.join("list")).unwrap()),
             by_list("File too large"),
         ),
         ("./list, a refusal, full", run_to(&mut list("/dev/null"), full()), by_list("No space left on device")),

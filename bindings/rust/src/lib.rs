@@ -137,11 +137,11 @@ pub struct Core {
 
 /// The unit's state, which the host keeps: it is returned or lent from sample to sample. An entry outside its range is refused by [`refusal::STATE`].
 ///
-/// Its entries are the held shears of the last two hundred accepted samples, 0 before the first. The unit cuts each to between -[`ENTRY_LIMIT`] and
-/// [`ENTRY_LIMIT`] as it enters, so that one sharp gust by itself lights no lamp; [`Answer::shear`] is not cut. They are a ring: the newest stands at
-/// `core.place`, each older one a place further on, and after place 199 comes place 0. The next entry is written one place back, over the oldest, and
-/// is the newest then: from the fresh state the first one goes to place 199. States that differ only in how far the ring is turned are not equal, but
-/// stand for the same history: every sample gets the same answer from them.
+/// Its entries are what the last two hundred accepted samples entered into the windows, 0 before the first: the held shear of each, which the unit
+/// cuts to between -[`ENTRY_LIMIT`] and [`ENTRY_LIMIT`], so that one sharp gust by itself lights no lamp; [`Answer::shear`] is not cut. They are a
+/// ring: the newest stands at `core.place`, each older one a place further on, and after place 199 comes place 0. The next entry is written one place
+/// back, over the oldest, and is the newest then: from the fresh state the first one goes to place 199. States that differ only in how far the ring is
+/// turned are not equal, but stand for the same history: every sample gets the same answer from them.
 ///
 /// A host may build a state of its own, from any place on. To have the unit's own history it cuts each held shear as the unit does: an entry that a
 /// state holds is summed as it stands, up to 50,000,000. With `seen` left at 0 the next sample would be taken as the first, with no change of along
@@ -473,7 +473,7 @@ pub fn run(file: &[u8], answers: &mut [u8]) -> Outcome {
     }
 }
 
-// README.md's Rust lines are a doc test of this crate.
+// README.md's Rust lines are doc tests of this crate.
 #[cfg(doctest)]
 #[doc = include_str!("../../../README.md")]
 struct Readme;

@@ -1,5 +1,5 @@
--- The listing that 01 works out, line by line, from the definitions: one list, one claim. Then a refusal, numbers below 0,
--- and the greatest u32 with the least i32.
+-- The listing that 01 works out, as A1 of 02 changes it, line by line, from the definitions: one list, one claim. Then a line and a total with red, a
+-- refusal, numbers below 0, and the greatest u32 with the least i32.
 use mathlib.Core.Bool.{true, false}
 use mathlib.Core.List.{List, [], _∷_}
 use mathlib.Core.Path.{_≡_, refl}
@@ -18,8 +18,10 @@ abbrev pub cases : List (List ℕ × String)
 cases =
     (headerText, "sample shear alert voice command\n")
     ∷ (lineText 0 (pos 0) 0 0 false (pos 0), "0 0 none 0 off\n")
-    ∷ (lineText 1 (pos 2098349) 2 1 true (pos 5000), "1 2098349 red 1 5000\n")
-    ∷ (lineText 2 (pos 7143) 2 1 true (pos 5075), "2 7143 red 1 5075\n")
+    ∷ (lineText 1 (pos 2098349) 0 0 false (pos 0), "1 2098349 none 0 off\n")
+    ∷ (lineText 2 (pos 7143) 0 0 false (pos 0), "2 7143 none 0 off\n")
+    ∷ (totalText 0 0, "red 0 amber 0\n")
+    ∷ (lineText 60 (pos 71429) 2 1 true (pos 5000), "60 71429 red 1 5000\n")
     ∷ (totalText 1 0, "red 1 amber 0\n")
     ∷ (refusedText 13 2, "refused 13 at 2\n")
     ∷ (lineText 10 (negℤ (pos 38)) 1 0 true (negℤ (pos 30000)), "10 -38 amber 0 -30000\n")
@@ -28,4 +30,4 @@ cases =
 
 pub all-are : AllAre cases
 unfolding digit digits decimal signed alertWord commandText headerText lineText totalText refusedText
-all-are = (refl, (refl, (refl, (refl, (refl, (refl, (refl, (refl, tt))))))))
+all-are = (refl, (refl, (refl, (refl, (refl, (refl, (refl, (refl, (refl, (refl, tt))))))))))
