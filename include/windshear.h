@@ -54,6 +54,9 @@ extern "C" {
 /* A held shear is cut to between minus this and this as it enters the windows; in hundred-thousandths. */
 #define WINDSHEAR_ENTRY_LIMIT 34500
 
+/* A float's hundredths are cut to between minus this and this, which is beyond every range: see windshear_converted. */
+#define WINDSHEAR_HUNDREDTHS_LIMIT 1000000
+
 /* The refusal numbers, in the order tested: what `refusal` holds, and what a writer answers. */
 enum windshear_refusal {
     WINDSHEAR_ACCEPTED = 0,
@@ -200,17 +203,21 @@ struct windshear_file_test {
     uint16_t count;
 };
 
-/* The record at a place. Where found is 0 the record and the sample are all zeros. */
+/* The record at a place. Where found is 0 exact is 0, and the record and the sample are all zeros. Bytes 6 and 7 are padding. */
 struct windshear_reading {
     uint16_t found;
     uint16_t refusal;
+    uint16_t exact;                 /* 1 where all three floats were exact hundredths; 0 where one at least was rounded */
     struct windshear_record record; /* as the file has it, its floats bit for bit */
     struct windshear_sample sample; /* the sample that a run takes it as */
 };
 
-/* A float's hundredths, cut at 1,000,000 either way. Where finite is 0 the hundredths are 0. Bytes 2 and 3 are padding. */
+/* A float's hundredths: 100 times its exact value, nearest, ties away from zero. Where finite is 0 all is 0: a float that is not
+ * finite is neither exact nor rounded. Bytes 6 and 7 are padding. */
 struct windshear_converted {
     uint16_t finite;
+    uint16_t exact;     /* 1 where 100 times its exact value is a whole number, cut or not; 0 where it was rounded */
+    uint16_t cut;       /* 1 where the hundredths are beyond WINDSHEAR_HUNDREDTHS_LIMIT either way, and were cut to it */
     int32_t hundredths;
 };
 

@@ -40,8 +40,9 @@ pub fn answer_to(record: &Record) -> Result<Vec<u8>, u16> {
     if number != 0 {
         return Err(number);
     }
-    let (read, sample) = read_record(&file, 0).expect("what was written is read");
-    println!("{read:?} is taken as {sample:?}");
+    let read = read_record(&file, 0).expect("what was written is read");
+    let float = if read.exact { "exact" } else { "rounded" };
+    println!("{:?} is taken as {:?}, {float}", read.record, read.sample);
     let mut answers = vec![0; ANSWER_SIZE * usize::from(test_file(&file).count)];
     let outcome = run(&file, &mut answers);
     assert_eq!(outcome.refusal, 0);

@@ -48,6 +48,8 @@ pub const MAX_RECORDS: usize = 2_600;
 pub const ANSWER_SIZE: usize = 10;
 /// A held shear is cut to between minus this and this as it enters the windows; in hundred-thousandths: see [`State`].
 pub const ENTRY_LIMIT: i32 = 34_500;
+/// The hundredths of a float are cut to between minus this and this, which is beyond every range: see [`Hundredths`].
+pub const HUNDREDTHS_LIMIT: i32 = 1_000_000;
 
 /// One sample; twenty make a second. A field may hold any value; each says what is accepted. The default is all zeros, and is refused.
 #[repr(C)]
@@ -316,10 +318,33 @@ pub enum Unread {
     Refused(u16),
 }
 
+/// A record that was read.
+#[derive(Clone, Copy, Debug, PartialEq)]
+pub struct Reading {
+    /// the record as the file has it, its floats bit for bit
+    pub record: Record,
+    /// the sample that a run takes it as
+    pub sample: Sample,
+    /// whether its three floats were exact hundredths; else one of them at least was rounded: see [`Hundredths::exact`]
+    pub exact: bool,
+}
+
+/// What a finite float becomes.
+#[derive(Clone, Copy, Debug, PartialEq, Eq)]
+pub struct Hundredths {
+    /// 100 times the float's exact value, nearest, ties away from zero; cut to between -[`HUNDREDTHS_LIMIT`] and [`HUNDREDTHS_LIMIT`]
+    pub number: i32,
+    /// whether 100 times the float's exact value is a whole number, cut or not; else it was rounded
+    pub exact: bool,
+    /// whether the hundredths were cut: they are beyond the limit
+    pub cut: bool,
+}
+
 #[repr(C)]
-struct Reading {
+struct Found {
     found: u16,
     refusal: u16,
+    exact: u16,
     record: Record,
     sample: Sample,
 }
@@ -327,6 +352,8 @@ struct Reading {
 #[repr(C)]
 struct Converted {
     finite: u16,
+    exact: u16,
+    cut: u16,
     hundredths: i32,
 }
 
@@ -339,7 +366,7 @@ extern "C" {
     fn windshear_write_header(count: u32, buf: *mut u8, len: usize) -> u16;
     fn windshear_write_record(record: Record, buf: *mut u8, len: usize) -> u16;
     fn windshear_test_file(file: *const u8, len: usize) -> FileTest;
-    fn windshear_read_record(file: *const u8, len: usize, place: usize) -> Reading;
+    fn windshear_read_record(file: *const u8, len: usize, place: usize) -> Found;
     fn windshear_run(file: *const u8, file_len: usize, answers: *mut u8, len: usize) -> Outcome;
 }
 
@@ -392,11 +419,27 @@ impl Answer {
     }
 }
 
-/// The hundredths that the float of a pattern becomes, cut at a million either way; `None` where it is not finite.
-pub fn hundredths(bits: u32) -> Option<i32> {
+/// The hundredths that the float of a pattern becomes, and whether it was exact; `None` where it is not finite.
+///
+/// ```
+/// use windshear::{hundredths, Hundredths, HUNDREDTHS_LIMIT};
+///
+/// let of = |knots: f32| hundredths(knots.to_bits());
+/// assert_eq!(of(140.25), Some(Hundredths { number: 14_025, exact: true, cut: false }));
+/// // No binary32 is 140.10: the nearest one is rounded to its hundredths.
+/// assert_eq!(of(140.10), Some(Hundredths { number: 14_010, exact: false, cut: false }));
+/// assert_eq!(of(10_000.0), Some(Hundredths { number: HUNDREDTHS_LIMIT, exact: true, cut: false }));
+/// assert_eq!(of(10_000.5), Some(Hundredths { number: HUNDREDTHS_LIMIT, exact: true, cut: true }));
+/// assert_eq!(of(f32::INFINITY), None);
+/// ```
+pub fn hundredths(bits: u32) -> Option<Hundredths> {
     // SAFETY: the function is proved to be defined for every pattern, and takes no pointer.
     let converted = unsafe { windshear_hundredths(bits) };
-    (converted.finite != 0).then_some(converted.hundredths)
+    (converted.finite != 0).then_some(Hundredths {
+        number: converted.hundredths,
+        exact: converted.exact != 0,
+        cut: converted.cut != 0,
+    })
 }
 
 /// Writes the header of a run file of so many records into [`HEADER_SIZE`] bytes and answers 0; or answers 5 or 7, and the buffer stays as it was.
@@ -421,7 +464,8 @@ pub fn test_file(file: &[u8]) -> FileTest {
     unsafe { windshear_test_file(file.as_ptr(), file.len()) }
 }
 
-/// The record at a place from 0, as the file has it, and the sample that a run takes it as. Other records of the file may be refused.
+/// The record at a place from 0, as the file has it, the sample that a run takes it as, and whether its floats were exact hundredths. Other records of
+/// the file may be refused.
 ///
 /// ```
 /// use windshear::{read_record, refusal, write_header, write_record, Record, Unread, HEADER_SIZE, RECORD_SIZE};
@@ -430,18 +474,22 @@ pub fn test_file(file: &[u8]) -> FileTest {
 /// let mut file = [0; HEADER_SIZE + RECORD_SIZE];
 /// assert_eq!(write_header(1, &mut file[..HEADER_SIZE]), 0);
 /// assert_eq!(write_record(&record, &mut file[HEADER_SIZE..]), 0);
-/// let (read, sample) = read_record(&file, 0).unwrap();
-/// assert!(read == record && read.along.is_sign_negative() && sample.airspeed == 14_000);
+/// let read = read_record(&file, 0).unwrap();
+/// assert!(read.record == record && read.record.along.is_sign_negative() && read.sample.airspeed == 14_000 && read.exact);
 /// assert_eq!(read_record(&file, 1), Err(Unread::NoSuchPlace));
 /// assert_eq!(read_record(&file[..31], 0), Err(Unread::Refused(refusal::LENGTH)));
 /// ```
-pub fn read_record(file: &[u8], place: usize) -> Result<(Record, Sample), Unread> {
+pub fn read_record(file: &[u8], place: usize) -> Result<Reading, Unread> {
     // SAFETY: as for `test_file`, and the function is defined for every place.
-    let reading = unsafe { windshear_read_record(file.as_ptr(), file.len(), place) };
-    match (reading.found, reading.refusal) {
+    let found = unsafe { windshear_read_record(file.as_ptr(), file.len(), place) };
+    match (found.found, found.refusal) {
         (0, 0) => Err(Unread::NoSuchPlace),
         (0, number) => Err(Unread::Refused(number)),
-        _ => Ok((reading.record, reading.sample)),
+        _ => Ok(Reading {
+            record: found.record,
+            sample: found.sample,
+            exact: found.exact != 0,
+        }),
     }
 }
 
@@ -491,6 +539,6 @@ const _: () = {
     assert!(size_of::<Record>() == 24 && offset_of!(Record, height) == 12 && offset_of!(Record, deselect) == 23);
     assert!(size_of::<Outcome>() == 4 && offset_of!(Outcome, place) == 2);
     assert!(size_of::<FileTest>() == 6 && offset_of!(FileTest, count) == 4);
-    assert!(size_of::<Reading>() == 68 && offset_of!(Reading, record) == 4 && offset_of!(Reading, sample) == 28);
-    assert!(size_of::<Converted>() == 8 && offset_of!(Converted, hundredths) == 4);
+    assert!(size_of::<Found>() == 72 && offset_of!(Found, exact) == 4 && offset_of!(Found, record) == 8 && offset_of!(Found, sample) == 32);
+    assert!(size_of::<Converted>() == 12 && offset_of!(Converted, exact) == 2 && offset_of!(Converted, cut) == 4 && offset_of!(Converted, hundredths) == 8);
 };
