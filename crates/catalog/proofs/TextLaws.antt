@@ -12,7 +12,7 @@ use lib.IntN.{ℤ, pos, negsuc, natAbs}
 use lib.Signed.{ltZ, mag}
 use lib.ListN.{length, take, drop, set, length-append, length-drop, take-append-drop}
 use lib.Seq.{length-take-le, take-at, drop-append-add, drop-drop, set-split}
-use Rattle.catalog.specs.Text.{ascii, digit, digits, decimal, signed, alertWord, commandText}
+use Rattle.catalog.specs.Text.{ascii, digit, digits, decimal, signed, alertWord, commandText, floatWord}
 use Rattle.catalog.specs.Text.{headerText, lineText, totalText, refusedText, written, Wrote}
 
 -- ════ Buffers ════
@@ -165,14 +165,19 @@ pub command-length : (shown : Bool) (command : ℤ) → length (commandText show
 unfolding commandText
 command-length shown command = either shown (signed command) (ascii "off") (signed-length command) (omega arith)
 
-pub line-length : (place : ℕ) (shear : ℤ) (alert voice : ℕ) (shown : Bool) (command : ℤ)
-    → length (lineText place shear alert voice shown command) ≤ 64
-unfolding lineText
-line-length place shear alert voice shown command =
-    simp length-append
-    (omega (arith, decimal-length place, signed-length shear, alert-length alert, decimal-length voice, command-length shown command))
+pub float-length : (exact : Bool) → length (floatWord exact) ≤ 7
+unfolding floatWord
+float-length exact = either exact (ascii "exact") (ascii "rounded") (omega arith) (omega arith)
 
-pub header-length : length headerText ≡ 33
+-- 60 bytes are enough for a line; `TextCases` has one that needs them
+pub line-length : (place : ℕ) (shear : ℤ) (alert voice : ℕ) (shown : Bool) (command : ℤ) (exact : Bool)
+    → length (lineText place shear alert voice shown command exact) ≤ 60
+unfolding lineText
+line-length place shear alert voice shown command exact =
+    simp length-append
+    (omega (arith, decimal-length place, signed-length shear, alert-length alert, decimal-length voice, command-length shown command, float-length exact))
+
+pub header-length : length headerText ≡ 39
 unfolding headerText
 header-length = refl
 

@@ -7,7 +7,7 @@ ghost use Prim.Native.Nat.{_+_, _<_, _≤_};
 ghost use lib.IntN.{pos, natAbs};
 ghost use lib.ListN.{length};
 ghost use lib.Signed.{ltZ};
-ghost use Rattle.catalog.specs.Text.{lineFeed, digit as digitText, decimal, signed as signedText, alertWord, commandText};
+ghost use Rattle.catalog.specs.Text.{lineFeed, digit as digitText, decimal, signed as signedText, alertWord, commandText, floatWord};
 ghost use Rattle.catalog.specs.Text.{headerText, lineText, totalText, refusedText, Wrote};
 
 pub(crate) fn byte(out: &mut [u8], at: usize, b: u8) -> usize
@@ -93,6 +93,16 @@ fn command_or_off(out: &mut [u8], at: usize, shown: bool, command: i32) -> usize
     word(out, at, b"off")
 }
 
+fn float_word(out: &mut [u8], at: usize, exact: bool) -> usize
+    requires { ⌜ at + 7 ≤ length (now out) ⌝ }
+    ensures { λ r. ⌜ Wrote (now (out .entry)) at (floatWord exact) r (now (out .exit)) ⌝ }
+{
+    if exact {
+        return word(out, at, b"exact");
+    }
+    word(out, at, b"rounded")
+}
+
 pub(crate) fn line(
     out: &mut [u8],
     at: usize,
@@ -102,9 +112,10 @@ pub(crate) fn line(
     voice: u16,
     shown: bool,
     command: i32,
+    exact: bool,
 ) -> usize
-    requires { ⌜ at + 64 ≤ length (now out) ⌝ }
-    ensures { λ r. ⌜ Wrote (now (out .entry)) at (lineText place shear alert voice shown command) r (now (out .exit)) ⌝ }
+    requires { ⌜ at + 60 ≤ length (now out) ⌝ }
+    ensures { λ r. ⌜ Wrote (now (out .entry)) at (lineText place shear alert voice shown command exact) r (now (out .exit)) ⌝ }
 {
     let a = number(out, at, place);
     let b = byte(out, a, b' ');
@@ -115,14 +126,16 @@ pub(crate) fn line(
     let g = number(out, f, voice as u32);
     let h = byte(out, g, b' ');
     let i = command_or_off(out, h, shown, command);
-    byte(out, i, b'\n')
+    let j = byte(out, i, b' ');
+    let k = float_word(out, j, exact);
+    byte(out, k, b'\n')
 }
 
 pub(crate) fn header(out: &mut [u8], at: usize) -> usize
-    requires { ⌜ at + 33 ≤ length (now out) ⌝ }
+    requires { ⌜ at + 39 ≤ length (now out) ⌝ }
     ensures { λ r. ⌜ Wrote (now (out .entry)) at headerText r (now (out .exit)) ⌝ }
 {
-    word(out, at, b"sample shear alert voice command\n")
+    word(out, at, b"sample shear alert voice command float\n")
 }
 
 // A word, a number, a word, a number, and the line feed.

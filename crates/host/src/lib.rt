@@ -21,10 +21,13 @@ use unit::Offered;
 use unit::Sample;
 use unit::State;
 
-// The hundredths of a float, cut at a million either way; finite is 0 where it is not, and the hundredths are 0.
+// The hundredths of a float, cut at a million either way; exact is 1 where 100 times its exact value is a whole number, and cut where the hundredths
+// were cut. Where it is not finite all is 0.
 #[repr(C)]
 pub struct ConvertedFloat {
     pub finite: u16,
+    pub exact: u16,
+    pub cut: u16,
     pub hundredths: i32,
 }
 
@@ -54,18 +57,22 @@ pub extern "C" fn windshear_offer_lent(state: &mut State, sample: Sample) -> Ans
     r.answer
 }
 
-// The hundredths that the float of a pattern becomes.
+// The hundredths that the float of a pattern becomes, and whether it was exact.
 #[no_mangle]
 pub extern "C" fn windshear_hundredths(bits: u32) -> ConvertedFloat
     ensures { λ r. ⌜ r ≡ convertedNumbers (convertedOf (Ieee.ofBits binary32 bits)) ⌝ }
 {
     match format::float::hundredths(bits) {
-        Converted::Hundredths(n) => ConvertedFloat {
+        Converted::Hundredths { number, exact, cut } => ConvertedFloat {
             finite: 1,
-            hundredths: n,
+            exact: exact as u16,
+            cut: cut as u16,
+            hundredths: number,
         },
         Converted::NotFinite => ConvertedFloat {
             finite: 0,
+            exact: 0,
+            cut: 0,
             hundredths: 0,
         },
     }
@@ -95,7 +102,7 @@ pub extern "C" fn windshear_test_file(file: &[u8]) -> FileTest
     runfile::run::test_file(file)
 }
 
-// The record at a place, from 0, with its sample; or why there is none to read: 1 to 6, 11 to 20, or 0 where the file has no such place.
+// The record at a place, from 0, with its sample and whether its floats were exact; or why there is none to read: 1 to 6, 11 to 20, or 0 where the file has no such place.
 #[no_mangle]
 pub extern "C" fn windshear_read_record(file: &[u8], place: usize) -> Reading
     ensures { λ r. ⌜ r ≡ readingOf (now (file .entry)) place ⌝ }
