@@ -1,9 +1,9 @@
--- Whether a float is exact, by the fields of its pattern: the sign s, the exponent's field e and the digits t.
+-- Whether a float is exact: by its hundredths, and by the fields of its pattern, which are the sign s, the exponent's field e and the digits t.
 -- Where e is neither 0 nor 255 the number is ± (8388608 + t) × 2 ^ e / 2 ^ 150.
 use mathlib.Core.Path.{_≡_, refl, sym, ap, _∙_}
 use mathlib.Core.Bool.{Bool, true, false, cond}
 use Prim.Native.Nat.{ℕ, zero, suc, _+_, _-_, _*_, _/_, _%_, _^_, _≤_, _<_}
-use native.Mathlib.Nat.{mod-eq-of-lt, mul-mod-left, mul-right-comm, mul-pos, one-mul, div-add-mod', eq-of-mul-eq-mul-right, lt-of-lt-of-le}
+use native.Mathlib.Nat.{add-zero, mod-eq-of-lt, mul-mod-left, mul-right-comm, mul-pos, one-mul, div-add-mod', eq-of-mul-eq-mul-right, lt-of-lt-of-le}
 use native.Mathlib.Decide.{decLt}
 use native.Mathlib.Omega.{arith}
 use borrow.Author.Tests.{eq-eqb, ne-eqb, eqb-true, lt-ltb}
@@ -12,15 +12,25 @@ use lib.Pow.{pow-pos, pow-mono, pow-add, shl-lt, shl-exact}
 use lib.Ieee.{Float, nan, inf, fin, binary32, up, down, odd, ofFields, ofBits}
 use lib.Ieee.Exact.{HasValue, odd-sign}
 use lib.Ieee.Fits.{down-pos}
-use Rattle.format.specs.Float.{exactFloat}
+use lib.IntN.{ℤ, pos, natAbs, _*ℤ_}
+use Rattle.rounding.specs.Rounding.{roundAway}
+use Rattle.rounding.proofs.Fits.{size-mul}
+use Rattle.rounding.proofs.Rounding.{round-whole}
+use Rattle.format.specs.Claims.{Equals, ExactKeeps}
+use Rattle.format.specs.Float.{hundredthsOf, exactFloat}
+use Rattle.format.proofs.Fields.{signed, signed-size, signed-times}
 
 -- ════ Fractions ════
+
+-- one that is whole is its quotient
+whole-is : (n d : ℕ) → n % d ≡ 0 → n / d * d ≡ n
+whole-is n d z = sym (add-zero (n / d * d)) ∙ ap (λ (r : ℕ). n / d * d + r) (sym z) ∙ div-add-mod' n d
 
 -- of two equal fractions both are whole or neither
 whole-too : (n d k f : ℕ) → 0 < d → n * f ≡ k * d → n % d ≡ 0 → k % f ≡ 0
 whole-too n d k f p h z =
     let q = n / d in
-    let e : n ≡ q * d = sym (div-add-mod' n d) ∙ ap (λ (r : ℕ). q * d + r) z ∙ omega arith in
+    let e : n ≡ q * d = sym (whole-is n d z) in
     let g : k ≡ q * f = eq-of-mul-eq-mul-right d p k (q * f) (sym h ∙ ap (λ (x : ℕ). x * f) e ∙ mul-right-comm q d f) in
     ap (λ (x : ℕ). x % f) g ∙ mul-mod-left q f
 
@@ -35,6 +45,28 @@ whole-same n d k f p q h = go (eqb (n % d) 0) (eqb (k % f) 0) refl refl
 -- one below 1 that is not 0 is not whole
 fraction : (n d : ℕ) → 0 < n → n < d → eqb (n % d) 0 ≡ false
 fraction n d p h = ap (λ (r : ℕ). eqb r 0) (mod-eq-of-lt h) ∙ ne-eqb n 0 (λ e. omega arith)
+
+-- ════ By the hundredths ════
+
+keeps : (s : Bool) (m : ℕ) (e : ℤ) → exactFloat (fin s m e) ≡ true → Equals (hundredthsOf s m e) s m e
+unfolding exactFloat hundredthsOf Equals
+keeps s m e h =
+    let n = 100 * (m * up e) in
+    let d = down e in
+    let q = n / d in
+    let whole : signed s q *ℤ pos d ≡ signed s n = signed-times s q d ∙ ap (signed s) (whole-is n d (eqb-true (n % d) 0 h)) in
+    ap (λ (x : ℤ). roundAway x d *ℤ pos d) (sym whole) ∙ ap (λ (x : ℤ). x *ℤ pos d) (round-whole (signed s q) d (down-pos e)) ∙ whole
+
+only : (s : Bool) (m : ℕ) (e h : ℤ) → Equals h s m e → exactFloat (fin s m e) ≡ true
+unfolding exactFloat Equals
+only s m e h l =
+    let n = 100 * (m * up e) in
+    let d = down e in
+    let z : natAbs h * d ≡ n = sym (size-mul h (pos d)) ∙ ap natAbs l ∙ signed-size s n in
+    eq-eqb (n % d) 0 (ap (λ (x : ℕ). x % d) (sym z) ∙ mul-mod-left (natAbs h) d)
+
+pub exact-keeps : ExactKeeps
+exact-keeps = record { keeps = keeps; only = only }
 
 -- ════ By the value, and by the fields ════
 

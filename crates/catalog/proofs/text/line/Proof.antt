@@ -57,7 +57,7 @@ from1 c = c .before .before .before
 after1 : (c : tie.After-number) → Stands (from1 c) (text1 (from1 c)) (c .number .result) (c .number .last .0) 50
 after1 c =
     let s = from1 c in
-    next (decimal (s .args .place)) (nothing {left = 60} (s .pre)) (omega (arith, decimal-length (s .args .place))) (c .number .ensures)
+    next (decimal (s .args .place)) (nothing {left = 60} (omega (arith, s .pre))) (omega (arith, decimal-length (s .args .place))) (c .number .ensures)
 
 abbrev from2 : tie.After-byte → tie.Start
 from2 c = from1 (c .before .before .before .before)
