@@ -1,5 +1,5 @@
 -- `float::exact` meets its contract, by the laws of a pattern's fields.
-use mathlib.Core.Path.{_≡_, ap, _∙_}
+use mathlib.Core.Path.{ap, _∙_}
 use Prim.Native.Nat.{ℕ, _*_, _-_, _/_, _%_, _^_}
 use borrow.Author.Needs.{needs}
 use lib.Dec.{eqb}
