@@ -3,22 +3,14 @@
 
 use std::hint::black_box;
 use windshear::Outcome;
-use windshear_tests::bench::{medians, report, Earlier};
-use windshear_tests::files::file_of_samples;
-use windshear_tests::gen::{calm_air, gusts, turbulence, Rng};
+use windshear_tests::bench::{medians, report, three_files, Earlier};
 use windshear_tests::{plain, reference};
 
 fn main() {
     let earlier = std::env::args().nth(1).map(|path| Earlier::open(&path));
-    let earlier = earlier.as_ref();
-    // calm: small random changes, no lamp; turbulent: strong random changes at every sample; gusty: winds
-    // that wander and jump, with changes of mode, height and climb
-    let calm = calm_air(&mut Rng::new(61), 2_600);
-    measure("calm", &file_of_samples(&calm), earlier);
-    let turbulent = turbulence(&mut Rng::new(62), 2_600);
-    measure("turbulent", &file_of_samples(&turbulent), earlier);
-    let gusty = gusts(&mut Rng::new(60), 2_600);
-    measure("gusty", &file_of_samples(&gusty), earlier);
+    for (name, file) in three_files() {
+        measure(name, &file, earlier.as_ref());
+    }
 }
 
 fn measure(name: &str, file: &[u8], earlier: Option<&Earlier>) {

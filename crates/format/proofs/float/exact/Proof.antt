@@ -1,6 +1,7 @@
 -- `float::exact` meets its contract, by the laws of a pattern's fields.
 use mathlib.Core.Path.{ap, _∙_}
 use Prim.Native.Nat.{ℕ, _*_, _-_, _/_, _%_, _^_}
+use native.Mathlib.Omega.{arith}
 use borrow.Author.Needs.{needs}
 use lib.Dec.{eqb}
 use Rattle.format.proofs.Exactness.{divisor, of-zero, of-small, of-middle, of-large}
@@ -8,10 +9,10 @@ use Rattle.format.proofs.float.exact.Statement.{statement}
 use Rattle.format.proofs.float.exact.Tie as tie
 
 returns : tie.Need-returns
-returns c = of-zero (c .before .args .bits) (c .if1 .taken)
+returns c = of-zero (c .before .args .bits) (omega (arith, c .if1 .taken))
 
 returns-2 : tie.Need-returns-2
-returns-2 c = of-small (c .before .before .args .bits) (c .if2 .taken) (c .before .if1 .left)
+returns-2 c = of-small (c .before .before .args .bits) (c .if2 .taken) (λ z. c .before .if1 .left (omega (arith, z)))
 
 returns-3 : tie.Need-returns-3
 returns-3 c = of-large (c .before .before .before .args .bits) (c .if3 .taken)
