@@ -9,6 +9,9 @@
  * WARNING: an answer to a refused sample has alert 0, which says nothing of the lamps: they stay as they were. A host that
  * shows `alert` without a look at `refusal` would darken a lit lamp.
  *
+ * The layout of windshear_reading and windshear_converted changed when they came to hold `exact` (request A2). A program that was
+ * compiled with an earlier header still links, and then reads wrong numbers or worse: compile it anew with this one.
+ *
  * Twenty samples make a second. A program that lights the red lamp after five seconds at 140 kt in a downdraft of 29.4 kt, a shear
  * of 0.2100, and keeps it lit at a sample that is refused:
  *
@@ -54,7 +57,8 @@ extern "C" {
 /* A held shear is cut to between minus this and this as it enters the windows; in hundred-thousandths. */
 #define WINDSHEAR_ENTRY_LIMIT 34500
 
-/* A float's hundredths are cut to between minus this and this, which is beyond every range: see windshear_converted. */
+/* A float's hundredths are cut to between minus this and this, which is 10,000.00 kt: see windshear_converted. That is beyond
+ * every range, so the floats of a record that is accepted are never cut. */
 #define WINDSHEAR_HUNDREDTHS_LIMIT 1000000
 
 /* The refusal numbers, in the order tested: what `refusal` holds, and what a writer answers. */
@@ -203,22 +207,26 @@ struct windshear_file_test {
     uint16_t count;
 };
 
-/* The record at a place. Where found is 0 exact is 0, and the record and the sample are all zeros. Bytes 6 and 7 are padding. */
+/* The record at a place. Where found is 0 exact is 0 too, and says nothing, and the record and the sample are all zeros. Bytes 6
+ * and 7 are padding: compare two readings by their fields. */
 struct windshear_reading {
-    uint16_t found;
-    uint16_t refusal;
+    uint16_t found;                 /* 1 where the record was read: see windshear_read_record */
+    uint16_t refusal;               /* of enum windshear_refusal: 0, 1 to 6, or 11 to 20 */
     uint16_t exact;                 /* 1 where all three floats were exact hundredths; 0 where one at least was rounded */
     struct windshear_record record; /* as the file has it, its floats bit for bit */
     struct windshear_sample sample; /* the sample that a run takes it as */
 };
 
-/* A float's hundredths: 100 times its exact value, nearest, ties away from zero. Where finite is 0 all is 0: a float that is not
- * finite is neither exact nor rounded. Bytes 6 and 7 are padding. */
+/* A float's hundredths: 100 times its exact value, nearest, ties away from zero. The float is exact where 100 times its exact
+ * value is a whole number; else it was rounded. As floats are binary, those that are exact are the whole quarters of a knot:
+ * 140.25 is, and 0.0 and -0.0 are; 140.1 is rounded, as no float is 140.1 and a file has the nearest one; every subnormal is
+ * rounded. That a float was rounded is no fault: a sample takes its hundredths. Where finite is 0 all is 0: a float that is not
+ * finite is neither exact nor rounded. Bytes 6 and 7 are padding: compare two by their fields. */
 struct windshear_converted {
-    uint16_t finite;
-    uint16_t exact;     /* 1 where 100 times its exact value is a whole number, cut or not; 0 where it was rounded */
-    uint16_t cut;       /* 1 where the hundredths are beyond WINDSHEAR_HUNDREDTHS_LIMIT either way, and were cut to it */
-    int32_t hundredths;
+    uint16_t finite;    /* 1; or 0 for an infinity and for what is not a number */
+    uint16_t exact;     /* 1 where it was exact, 0 where it was rounded: judged by its value, not by the cut, so 3.4e38 is exact */
+    uint16_t cut;       /* 1 where the rounded hundredths are beyond WINDSHEAR_HUNDREDTHS_LIMIT either way, and were cut to it */
+    int32_t hundredths; /* -WINDSHEAR_HUNDREDTHS_LIMIT to WINDSHEAR_HUNDREDTHS_LIMIT */
 };
 
 /* The state that has seen no sample: all fields 0. */
@@ -233,8 +241,9 @@ struct windshear_answer windshear_offer_lent(struct windshear_state *state, stru
 struct windshear_offered windshear_offer(struct windshear_state state, struct windshear_sample sample);
 
 /* A whole run file. The answers are WINDSHEAR_ANSWER_SIZE bytes a record: alert, voice, the command in 2 (signed), the held
- * shear in 4 (signed, not cut), guidance, a zero; the lowest byte first. Refused by 1 to 7 or 11 to 20, the buffer is untouched.
- * For length 0 pass any pointer that is not NULL. A run of count 0 is good, and its answers have length 0:
+ * shear in 4 (signed, not cut), guidance, a zero; the lowest byte first. They do not say whether a record's floats were exact:
+ * windshear_read_record does. Refused by 1 to 7 or 11 to 20, the buffer is untouched. For length 0 pass any pointer that is not
+ * NULL. A run of count 0 is good, and its answers have length 0:
  *
  *    uint8_t none = 0;
  *    struct windshear_outcome outcome = windshear_run(file, WINDSHEAR_HEADER_SIZE, &none, 0);
@@ -250,8 +259,9 @@ struct windshear_file_test windshear_test_file(const uint8_t *file, size_t lengt
  *    refusal 1 to 6, found 0: the file is refused by its header or its length, at every place;
  *    refusal 0, found 0: the file has no record there: place is not below its count;
  *    refusal 11 to 20, found 0: that record is refused (others of the file may be good);
- *    refusal 0, found 1: the record, though others of the file may be refused.
- * Writing a record that was found gives its bytes again, and reading one that was written gives its fields again.
+ *    refusal 0, found 1: the record, its sample and whether its floats were exact, though others of the file may be refused.
+ * Writing a record that was found gives its bytes again, and reading one that was written gives its fields again. A cataloguer can
+ * list by `exact` which records had exact hundredths in the file, and learn from windshear_hundredths which speed was rounded.
  * For length 0 pass any pointer that is not NULL; the refusal is 1. */
 struct windshear_reading windshear_read_record(const uint8_t *file, size_t length, size_t place);
 
@@ -260,7 +270,8 @@ struct windshear_reading windshear_read_record(const uint8_t *file, size_t lengt
 uint16_t windshear_write_header(uint32_t count, uint8_t *buffer, size_t length);
 uint16_t windshear_write_record(struct windshear_record record, uint8_t *buffer, size_t length);
 
-/* The hundredths that the float with these 32 bits becomes. */
+/* The hundredths that the float with these 32 bits becomes, whether it was exact and whether it was cut. A float's bits are what
+ * memcpy copies from it into a uint32_t; a record's floats become its sample's speeds in the same way. */
 struct windshear_converted windshear_hundredths(uint32_t bits);
 
 #ifdef __cplusplus

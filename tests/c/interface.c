@@ -1,18 +1,19 @@
 /* The C interface: the layout of every struct against the library, what refusals leave behind, what enters the windows, runs against lone samples,
- * and records read back. */
+ * records read back, and which floats are exact, rounded or cut. */
 #include <stdio.h>
 #include <string.h>
 #include "windshear.h"
 
 #define AT(type, field, offset) _Static_assert(offsetof(struct windshear_##type, field) == offset, #type "." #field)
 #define SIZE(type, size) _Static_assert(sizeof(struct windshear_##type) == size, #type)
-SIZE(sample, 40); SIZE(sums, 48); SIZE(core, 72); SIZE(state, 872); SIZE(answer, 16); SIZE(offered, 888); SIZE(record, 24); SIZE(outcome, 4); SIZE(converted, 8);
-SIZE(file_test, 6); SIZE(reading, 68);
+SIZE(sample, 40); SIZE(sums, 48); SIZE(core, 72); SIZE(state, 872); SIZE(answer, 16); SIZE(offered, 888); SIZE(record, 24); SIZE(outcome, 4);
+SIZE(converted, 12); SIZE(file_test, 6); SIZE(reading, 72);
 AT(sums, s180, 8); AT(sums, s160, 16); AT(sums, s140, 24); AT(sums, s120, 32); AT(sums, s100, 40);
 AT(core, sums, 0); AT(core, along, 48); AT(core, mode, 52); AT(core, command, 56); AT(core, seen, 60); AT(core, red, 62); AT(core, amber, 64);
 AT(core, voice, 66); AT(core, guidance, 68); AT(core, place, 70); AT(state, held, 0); AT(state, core, 800); AT(answer, guidance, 6); AT(answer, shear, 12);
-AT(offered, state, 16); AT(record, height, 12); AT(record, vs1, 20); AT(record, deselect, 23); AT(outcome, place, 2); AT(converted, hundredths, 4);
-AT(file_test, count, 4); AT(reading, record, 4); AT(reading, sample, 28);
+AT(offered, state, 16); AT(record, height, 12); AT(record, vs1, 20); AT(record, deselect, 23); AT(outcome, place, 2); AT(file_test, count, 4);
+AT(converted, finite, 0); AT(converted, exact, 2); AT(converted, cut, 4); AT(converted, hundredths, 8);
+AT(reading, found, 0); AT(reading, refusal, 2); AT(reading, exact, 4); AT(reading, record, 8); AT(reading, sample, 32);
 _Static_assert(_Alignof(struct windshear_state) == 8 && _Alignof(struct windshear_offered) == 8 && _Alignof(struct windshear_reading) == 4, "alignment");
 /* a state has no padding: its size is that of its fields */
 _Static_assert(sizeof(struct windshear_state) == 200 * 4 + 6 * 8 + 3 * 4 + 6 * 2, "padding");
@@ -33,6 +34,14 @@ static int same_state(const struct windshear_state *a, const struct windshear_st
 
 static int same_answer(struct windshear_answer a, struct windshear_answer b) {
     return a.refusal == b.refusal && a.alert == b.alert && a.voice == b.voice && a.guidance == b.guidance && a.command == b.command && a.shear == b.shear;
+}
+
+/* No record, and this refusal. A reading has padding; a record and a sample have none. */
+static int unread(struct windshear_reading r, int refusal) {
+    static const struct windshear_record no_record;
+    static const struct windshear_sample no_sample;
+    return r.found == 0 && r.refusal == refusal && r.exact == 0 && memcmp(&r.record, &no_record, sizeof no_record) == 0
+           && memcmp(&r.sample, &no_sample, sizeof no_sample) == 0;
 }
 
 static const struct windshear_sample calm = {.airspeed = 14000, .height = 400, .pitch = 5000, .stall = 20000, .climb = -700, .vs1 = 10000, .mode = 1};
@@ -308,7 +317,8 @@ static void three_records(void) {
     for (int i = 0; i < 3; i++) {
         check(shows(answers + WINDSHEAR_ANSWER_SIZE * i, want[i]), "01's ten bytes");
         struct windshear_reading r = windshear_read_record(file, length, (size_t)i);
-        check(r.found == 1 && r.refusal == WINDSHEAR_ACCEPTED && r.record.along == along[i] && r.record.vertical == vertical[i] && r.record.airspeed == 140
+        check(r.found == 1 && r.refusal == WINDSHEAR_ACCEPTED && r.exact == 1, "a record is found, and was exact");
+        check(r.record.along == along[i] && r.record.vertical == vertical[i] && r.record.airspeed == 140
               && r.record.height == 400 && r.record.pitch == 5000 && r.record.stall == 20000 && r.record.climb == -700 && r.record.vs1 == 10000
               && r.record.mode == 1 && r.record.deselect == 0, "a record is read as it was written");
         check(r.sample.along == (int32_t)(100 * along[i]) && r.sample.vertical == (int32_t)(100 * vertical[i]) && r.sample.airspeed == calm.airspeed
@@ -328,11 +338,8 @@ static void three_records(void) {
     check(test.refusal == WINDSHEAR_REFUSED_MODE && test.place == 1 && test.count == 0, "the file's own test says the same, and no count");
     static const struct { size_t place; int found, refusal; } places[] = {{0, 1, 0}, {1, 0, WINDSHEAR_REFUSED_MODE}, {2, 1, 0}, {3, 0, 0}, {SIZE_MAX, 0, 0}};
     for (size_t i = 0; i < sizeof places / sizeof *places; i++) {
-        struct windshear_reading r = windshear_read_record(file, length, places[i].place), none;
-        memset(&none, 0, sizeof none);
-        none.refusal = (uint16_t)places[i].refusal;
-        /* a reading has no padding */
-        check(r.found == places[i].found && r.refusal == places[i].refusal && (r.found || memcmp(&r, &none, sizeof r) == 0), "the record at a place, or zeros");
+        struct windshear_reading r = windshear_read_record(file, length, places[i].place);
+        check(places[i].found ? r.found == 1 && r.refusal == 0 && r.exact == 1 : unread(r, places[i].refusal), "the record at a place, or zeros");
     }
 }
 
@@ -350,10 +357,7 @@ static void headers(void) {
         size_t length = sizeof file - (number == WINDSHEAR_REFUSED_SHORT);
         struct windshear_file_test test = windshear_test_file(file, length);
         check(test.refusal == number && test.place == 0 && test.count == 0, "a header's number");
-        for (size_t place = 0; place < 3; place++) {
-            struct windshear_reading r = windshear_read_record(file, length, place);
-            check(r.found == 0 && r.refusal == number, "the same at every place");
-        }
+        for (size_t place = 0; place < 3; place++) check(unread(windshear_read_record(file, length, place), number), "the same at every place");
     }
 }
 
@@ -372,8 +376,7 @@ static void lengths_of_zero(void) {
     check(outcome.refusal == WINDSHEAR_REFUSED_SHORT && outcome.place == 0 && none == 0, "an empty file is refused by 1");
     const struct windshear_file_test test = windshear_test_file(&byte, 0);
     check(test.refusal == WINDSHEAR_REFUSED_SHORT && test.place == 0 && test.count == 0, "by its own test");
-    const struct windshear_reading r = windshear_read_record(&byte, 0, 0);
-    check(r.found == 0 && r.refusal == WINDSHEAR_REFUSED_SHORT, "and at a place");
+    check(unread(windshear_read_record(&byte, 0, 0), WINDSHEAR_REFUSED_SHORT), "and at a place");
     check(windshear_write_header(0, &byte, 0) == WINDSHEAR_REFUSED_BUFFER && windshear_write_header(WINDSHEAR_MAX_RECORDS + 1, &byte, 0) == WINDSHEAR_REFUSED_COUNT,
           "no header is written");
     const struct windshear_record record = {0, 0, 140, 400, 5000, 20000, -700, 10000, 1, 0};
@@ -393,8 +396,101 @@ static void writers(void) {
     r.along = __builtin_nanf("");
     check(windshear_write_record(r, buffer, WINDSHEAR_RECORD_SIZE) == WINDSHEAR_REFUSED_ALONG, "a float that is no number");
     for (size_t i = 0; i < sizeof buffer; i++) check(buffer[i] == 0xa5, "a refused write leaves the buffer");
-    struct windshear_converted h = windshear_hundredths(0xbe000000u), none = windshear_hundredths(0x7f800000u);
-    check(h.finite == 1 && h.hundredths == -13 && none.finite == 0 && none.hundredths == 0, "a float's hundredths");
+}
+
+static uint32_t bits_of(float knots) {
+    uint32_t bits;
+    memcpy(&bits, &knots, sizeof bits);
+    return bits;
+}
+
+/* How many floats were seen to be exact, rounded and cut. */
+static struct seen { int exact, rounded, cut; } seen;
+
+/* A float's conversion, all of it. */
+static int becomes(float knots, int exact, int cut, int32_t hundredths) {
+    const struct windshear_converted h = windshear_hundredths(bits_of(knots));
+    seen.exact += h.exact, seen.rounded += !h.exact, seen.cut += h.cut;
+    return h.finite == 1 && h.exact == exact && h.cut == cut && h.hundredths == hundredths;
+}
+
+/* Which floats are exact, which are rounded, and which are cut. */
+static void converted(void) {
+    enum { LIMIT = WINDSHEAR_HUNDREDTHS_LIMIT };
+    /* of a float the step at 10,000 is 2^-10; 0x1p-149 is the least subnormal, 0x1.fffffcp-127 the greatest */
+    static const struct { float knots; int exact, cut; int32_t hundredths; } of[] = {
+        {0.0f, 1, 0, 0}, {140.25f, 1, 0, 14025}, {140.10f, 0, 0, 14010}, {140.0f, 1, 0, 14000}, {0.5f, 1, 0, 50}, {0.25f, 1, 0, 25}, {0.125f, 0, 0, 13},
+        {0.004f, 0, 0, 0}, {0x1p-149f, 0, 0, 0}, {0x1.fffffcp-127f, 0, 0, 0}, {0x1p-126f, 0, 0, 0}, {200.004f, 0, 0, 20000}, {9999.75f, 1, 0, 999975},
+        {10000.0f, 1, 0, LIMIT}, {10000.0f + 0x1p-10f, 0, 0, LIMIT}, {10000.0f + 0x5p-10f, 0, 0, LIMIT}, {10000.0f + 0x6p-10f, 0, 1, LIMIT},
+        {10000.25f, 1, 1, LIMIT}, {10000.1f, 0, 1, LIMIT}, {0x1p21f - 0.125f, 0, 1, LIMIT}, {0x1p21f + 0.25f, 1, 1, LIMIT}, {3.4e38f, 1, 1, LIMIT},
+        {0x1.fffffep127f, 1, 1, LIMIT}};
+    for (size_t k = 0; k < sizeof of / sizeof *of; k++) {
+        check(becomes(of[k].knots, of[k].exact, of[k].cut, of[k].hundredths), "a float is exact, rounded or cut");
+        check(becomes(-of[k].knots, of[k].exact, of[k].cut, -of[k].hundredths), "and so with its sign turned");
+    }
+    static const uint32_t not_finite[] = {0x7f800000u, 0xff800000u, 0x7f800001u, 0x7fc00000u, 0xffc00000u, 0xffffffffu};
+    for (size_t k = 0; k < sizeof not_finite / sizeof *not_finite; k++) {
+        const struct windshear_converted h = windshear_hundredths(not_finite[k]);
+        check(h.finite == 0 && h.exact == 0 && h.cut == 0 && h.hundredths == 0, "what is not finite is neither exact nor rounded");
+    }
+    /* the float nearest to each hundredth of the three ranges: exact are the quarters of a knot, every 25th */
+    for (int32_t n = -20000; n <= 60000; n++) check(becomes((float)n / 100, n % 25 == 0, 0, n), "a hundredth");
+    /* patterns of every size: a double holds 100 times a float, and from 2^53 on it is whole */
+    for (uint32_t k = 0; k < 50000; k++) {
+        const uint32_t bits = k * 85899u;
+        if (bits << 1 >= 0xff000000u) continue;
+        float knots;
+        memcpy(&knots, &bits, sizeof knots);
+        const double times = 100 * (double)knots;
+        const int small = times > -0x1p53 && times < 0x1p53;
+        const int64_t nearest = small ? (int64_t)(times + (times < 0 ? -0.5 : 0.5)) : times < 0 ? INT64_MIN : INT64_MAX;
+        const int whole = !small || (double)(int64_t)times == times, above = nearest > LIMIT, below = nearest < -LIMIT;
+        check(becomes(knots, whole, above || below, above ? LIMIT : below ? -LIMIT : (int32_t)nearest), "a pattern's hundredths");
+    }
+    check(seen.exact && seen.rounded && seen.cut, "floats that are exact, rounded and cut");
+}
+
+/* Whether a record was exact: each of its floats exact or rounded, in turn. A float that was rounded refuses nothing, and a run takes its hundredths. */
+static void exact_records(void) {
+    static const struct { float knots[3]; int32_t hundredths[3]; } whole = {{-0.0f, -29.5f, 140.25f}, {0, -2950, 14025}},
+        rounded[] = {{{0x1p-149f, -29.4f, 140.10f}, {0, -2940, 14010}}, {{200.004f, 99.996f, 600.004f}, {20000, 10000, 60000}},
+                     {{0.125f, -0.125f, 60.125f}, {13, -13, 6013}}, {{-200.004f, -100.004f, 59.996f}, {-20000, -10000, 6000}}};
+    enum { KINDS = sizeof rounded / sizeof *rounded, COUNT = 8 * KINDS };
+    uint8_t file[START(COUNT)], answers[COUNT * WINDSHEAR_ANSWER_SIZE];
+    float knots[COUNT][3];
+    struct windshear_sample sample[COUNT];
+    check(windshear_write_header(COUNT, file, WINDSHEAR_HEADER_SIZE) == WINDSHEAR_ACCEPTED, "the header is written");
+    for (int i = 0; i < COUNT; i++) {
+        int32_t speed[3];
+        for (int k = 0; k < 3; k++) {
+            const int is_rounded = i >> k & 1;
+            knots[i][k] = is_rounded ? rounded[i / 8].knots[k] : whole.knots[k];
+            speed[k] = is_rounded ? rounded[i / 8].hundredths[k] : whole.hundredths[k];
+        }
+        sample[i] = calm;
+        sample[i].along = speed[0], sample[i].vertical = speed[1], sample[i].airspeed = speed[2];
+        const struct windshear_record r = {knots[i][0], knots[i][1], knots[i][2], 400, 5000, 20000, -700, 10000, 1, 0};
+        check(windshear_write_record(r, file + START(i), WINDSHEAR_RECORD_SIZE) == WINDSHEAR_ACCEPTED, "a record with rounded floats is written");
+    }
+    const struct windshear_outcome outcome = windshear_run(file, sizeof file, answers, sizeof answers);
+    check(outcome.refusal == WINDSHEAR_ACCEPTED && outcome.place == 0, "and run");
+    struct windshear_state state = windshear_fresh();
+    for (int i = 0; i < COUNT; i++) {
+        const struct windshear_reading r = windshear_read_record(file, sizeof file, (size_t)i);
+        check(r.found == 1 && r.refusal == WINDSHEAR_ACCEPTED && r.exact == (i % 8 == 0), "a record is exact where its three floats are");
+        check(memcmp(&r.record, knots[i], sizeof knots[i]) == 0 && memcmp(&r.sample, &sample[i], sizeof sample[i]) == 0, "its floats, and its hundredths");
+        check(shows(answers + WINDSHEAR_ANSWER_SIZE * i, windshear_offer_lent(&state, sample[i])), "which the run takes");
+    }
+    /* the same records refused, by their last byte and then by their first float: they are not exact */
+    static const uint32_t along[] = {0x43484000u /* 200.25 */, 0x7f7fc99eu /* 3.4e38 */, 0xff800000u, 0x7fc00000u};
+    for (int i = 0; i < COUNT; i++) {
+        file[START(i + 1) - 1] = 2;
+        check(unread(windshear_read_record(file, sizeof file, (size_t)i), WINDSHEAR_REFUSED_DESELECT), "refused, it is not exact");
+        for (size_t k = 0; k < sizeof along / sizeof *along; k++) {
+            memcpy(file + START(i), &along[k], sizeof along[k]);
+            check(unread(windshear_read_record(file, sizeof file, (size_t)i), WINDSHEAR_REFUSED_ALONG), "nor by a float out of range");
+        }
+    }
 }
 
 int main(void) {
@@ -409,8 +505,11 @@ int main(void) {
     headers();
     lengths_of_zero();
     writers();
+    converted();
+    exact_records();
     printf("answers in lists: red %d, amber %d, with voice %d, with guidance %d, beyond the cut %d\n", in_all.red, in_all.amber, in_all.voice, in_all.guidance,
            in_all.gust);
+    printf("floats: exact %d, rounded %d, cut %d\n", seen.exact, seen.rounded, seen.cut);
     printf("compared %d facts of the C interface\n", checks);
     return wrong != 0;
 }

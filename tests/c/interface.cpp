@@ -1,15 +1,20 @@
 /* The header as C++: 01's three records lent, in the plain form and as a run file that is read back, a ring turned, both lamps lit by an exposure,
- * lengths of 0, and a float's hundredths. */
+ * lengths of 0, and floats and records that are exact or rounded. */
 #include "windshear.h"
 #include <algorithm>
 #include <cstddef>
 #include <cstdint>
 #include <cstdio>
+#include <cstring>
 #include <vector>
 
 static_assert(sizeof(windshear_sums) == 48 && sizeof(windshear_core) == 72 && sizeof(windshear_state) == 872 && sizeof(windshear_offered) == 888, "sizes");
 static_assert(offsetof(windshear_sums, s100) == 40 && offsetof(windshear_core, along) == 48 && offsetof(windshear_core, place) == 70
               && offsetof(windshear_state, core) == 800 && offsetof(windshear_offered, state) == 16, "places");
+static_assert(sizeof(windshear_converted) == 12 && offsetof(windshear_converted, exact) == 2 && offsetof(windshear_converted, cut) == 4
+              && offsetof(windshear_converted, hundredths) == 8, "a float's conversion");
+static_assert(sizeof(windshear_reading) == 72 && offsetof(windshear_reading, exact) == 4 && offsetof(windshear_reading, record) == 8
+              && offsetof(windshear_reading, sample) == 32, "a reading");
 static_assert(alignof(windshear_state) == 8 && alignof(windshear_offered) == 8, "alignment");
 
 static int checks, wrong;
@@ -34,11 +39,55 @@ template <class T> static bool same_fields(const T &a, const T &b) {
 
 /* No record, and this refusal. */
 static bool unread(const windshear_reading &r, int refusal) {
-    return r.found == 0 && r.refusal == refusal && same_fields(r.record, windshear_record{}) && same_fields(r.sample, windshear_sample{});
+    return r.found == 0 && r.refusal == refusal && r.exact == 0 && same_fields(r.record, windshear_record{}) && same_fields(r.sample, windshear_sample{});
 }
 
 /* Where a record starts in a file, from the file's start; after the last, the file's length. */
 static constexpr std::size_t start(std::size_t place) { return WINDSHEAR_HEADER_SIZE + WINDSHEAR_RECORD_SIZE * place; }
+
+static windshear_converted converted(float knots) {
+    uint32_t bits;
+    std::memcpy(&bits, &knots, sizeof bits);
+    return windshear_hundredths(bits);
+}
+
+/* Floats that are exact, rounded or cut, with either sign; and those that are not finite. */
+static void floats() {
+    const int32_t limit = WINDSHEAR_HUNDREDTHS_LIMIT;
+    const struct { float knots; int exact, cut; int32_t hundredths; } of[] = {
+        {140.25f, 1, 0, 14025}, {140.10f, 0, 0, 14010}, {0.0f, 1, 0, 0}, {0x1p-149f, 0, 0, 0}, {0.125f, 0, 0, 13}, {3.4e38f, 1, 1, limit},
+        {10000.0f, 1, 0, limit}, {10000.0f + 0x1p-10f, 0, 0, limit}, {10000.0f + 0x6p-10f, 0, 1, limit}, {10000.25f, 1, 1, limit}};
+    for (const auto &one : of)
+        for (const int sign : {1, -1}) {
+            const windshear_converted h = converted(sign < 0 ? -one.knots : one.knots);
+            check(h.finite == 1 && h.exact == one.exact && h.cut == one.cut && h.hundredths == sign * one.hundredths, "a float is exact, rounded or cut");
+        }
+    for (const uint32_t bits : {0x7f800000u, 0xff800000u, 0x7fc00000u, 0xffffffffu}) {
+        const windshear_converted h = windshear_hundredths(bits);
+        check(h.finite == 0 && h.exact == 0 && h.cut == 0 && h.hundredths == 0, "what is not finite is neither exact nor rounded");
+    }
+}
+
+/* Records whose floats are exact or rounded, each in turn; and then refused by their last byte. */
+static void exact_records() {
+    const int count = 8;
+    std::vector<uint8_t> file(start(count));
+    std::vector<windshear_record> records;
+    std::vector<windshear_sample> samples;
+    check(windshear_write_header(count, file.data(), WINDSHEAR_HEADER_SIZE) == WINDSHEAR_ACCEPTED, "the header is written");
+    for (int i = 0; i < count; i++) {
+        records.push_back({i & 1 ? 0.1f : -0.0f, i & 2 ? -29.4f : -29.5f, i & 4 ? 140.1f : 140.25f, 400, 5000, 20000, -700, 10000, 1, 0});
+        samples.push_back({i & 1 ? 10 : 0, i & 2 ? -2940 : -2950, i & 4 ? 14010 : 14025, 400, 5000, 20000, -700, 10000, 1, 0});
+        check(windshear_write_record(records[i], file.data() + start(i), WINDSHEAR_RECORD_SIZE) == WINDSHEAR_ACCEPTED, "a record with rounded floats is written");
+    }
+    for (int i = 0; i < count; i++) {
+        const windshear_reading r = windshear_read_record(file.data(), file.size(), i);
+        check(r.found == 1 && r.refusal == WINDSHEAR_ACCEPTED && r.exact == (i == 0), "a record is exact where its three floats are");
+        check(same_fields(r.record, records[i]) && same_fields(r.sample, samples[i]), "its floats, and its hundredths");
+        file[start(i + 1) - 1] = 2;
+        check(unread(windshear_read_record(file.data(), file.size(), i), WINDSHEAR_REFUSED_DESELECT), "refused, it is not exact");
+    }
+}
 
 /* Five seconds of this vertical wind, 0.01 kt, at 140 kt, lent and as a run: dark up to the last sample, which is answered so. */
 static void exposed(int32_t vertical, const windshear_answer &last) {
@@ -122,7 +171,7 @@ int main() {
         const uint8_t *answer = answers + WINDSHEAR_ANSWER_SIZE * i;
         check(answer[0] == want[i].alert && answer[1] == want[i].voice && answer[8] == want[i].guidance, "01's ten bytes");
         const windshear_reading r = windshear_read_record(file, sizeof file, i);
-        check(r.found == 1 && r.refusal == WINDSHEAR_ACCEPTED, "a record is found");
+        check(r.found == 1 && r.refusal == WINDSHEAR_ACCEPTED && r.exact == 1, "a record is found, and was exact");
         check(same_fields(r.record, records[i]) && same_fields(r.sample, samples[i]), "as it was written, with its sample");
     }
     const std::size_t beyond[2] = {3, SIZE_MAX};
@@ -146,8 +195,8 @@ int main() {
     exposed(2940, {0, WINDSHEAR_ALERT_AMBER, 0, 0, 0, -21000});
     lengths_of_zero();
 
-    const auto eighth = windshear_hundredths(0xbe000000u), infinite = windshear_hundredths(0x7f800000u);
-    check(eighth.finite == 1 && eighth.hundredths == -13 && infinite.finite == 0 && infinite.hundredths == 0, "a float's hundredths");
+    floats();
+    exact_records();
 
     std::printf("compared %d facts of the C++ interface\n", checks);
     return wrong != 0;

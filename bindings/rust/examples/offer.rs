@@ -41,8 +41,8 @@ pub fn answer_to(record: &Record) -> Result<Vec<u8>, u16> {
         return Err(number);
     }
     let read = read_record(&file, 0).expect("what was written is read");
-    let float = if read.exact { "exact" } else { "rounded" };
-    println!("{:?} is taken as {:?}, {float}", read.record, read.sample);
+    let floats = if read.exact { "exact" } else { "rounded" };
+    println!("{floats}: {:?} is taken as {:?}", read.record, read.sample);
     let mut answers = vec![0; ANSWER_SIZE * usize::from(test_file(&file).count)];
     let outcome = run(&file, &mut answers);
     assert_eq!(outcome.refusal, 0);
@@ -54,11 +54,14 @@ pub fn main() {
     // the along wind grows by 4.2 kt a second for five seconds; then a sample that is refused
     let along_winds: Vec<i32> = (0..=100).map(|i| 21 * i).chain([20_001]).collect();
     println!("an exposure: {:?}", lamp_after(&along_winds));
-    let record = Record {
-        airspeed: 140.0,
-        height: 400,
-        vs1: 10_000,
-        ..Record::default()
-    };
-    println!("{:?}", answer_to(&record));
+    // 140.25 kt is a float, and so exact; 140.1 kt is none, and the nearest one is rounded to its hundredths
+    for airspeed in [140.25, 140.1] {
+        let record = Record {
+            airspeed,
+            height: 400,
+            vs1: 10_000,
+            ..Record::default()
+        };
+        println!("{:?}", answer_to(&record));
+    }
 }

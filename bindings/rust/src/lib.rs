@@ -48,7 +48,8 @@ pub const MAX_RECORDS: usize = 2_600;
 pub const ANSWER_SIZE: usize = 10;
 /// A held shear is cut to between minus this and this as it enters the windows; in hundred-thousandths: see [`State`].
 pub const ENTRY_LIMIT: i32 = 34_500;
-/// The hundredths of a float are cut to between minus this and this, which is beyond every range: see [`Hundredths`].
+/// A float's hundredths are cut to between minus this and this, which is 10,000.00 kt: see [`Hundredths`]. That is beyond every range, so the floats
+/// of a record that is accepted are never cut.
 pub const HUNDREDTHS_LIMIT: i32 = 1_000_000;
 
 /// One sample; twenty make a second. A field may hold any value; each says what is accepted. The default is all zeros, and is refused.
@@ -318,25 +319,45 @@ pub enum Unread {
     Refused(u16),
 }
 
-/// A record that was read.
+/// A record that was read, by [`read_record`].
+///
+/// A cataloguer can list by `exact` which records had exact hundredths in the file, and learn from [`hundredths`] which speed was rounded:
+///
+/// ```
+/// use windshear::{hundredths, read_record, write_header, write_record, Record, HEADER_SIZE, RECORD_SIZE};
+///
+/// let record = Record { along: -20.5, vertical: 0.75, airspeed: 140.10, height: 400, vs1: 10_000, ..Record::default() };
+/// let mut file = [0; HEADER_SIZE + RECORD_SIZE];
+/// assert_eq!(write_header(1, &mut file[..HEADER_SIZE]), 0);
+/// assert_eq!(write_record(&record, &mut file[HEADER_SIZE..]), 0);
+/// let read = read_record(&file, 0).unwrap();
+/// assert!(!read.exact);
+/// assert_eq!([read.sample.along, read.sample.vertical, read.sample.airspeed], [-2_050, 75, 14_010]);
+/// let speeds = [read.record.along, read.record.vertical, read.record.airspeed];
+/// assert_eq!(speeds.map(|knots| hundredths(knots.to_bits()).unwrap().exact), [true, true, false]);
+/// ```
 #[derive(Clone, Copy, Debug, PartialEq)]
 pub struct Reading {
     /// the record as the file has it, its floats bit for bit
     pub record: Record,
     /// the sample that a run takes it as
     pub sample: Sample,
-    /// whether its three floats were exact hundredths; else one of them at least was rounded: see [`Hundredths::exact`]
+    /// whether all three floats were exact hundredths; else one at least was rounded: see [`Hundredths`]
     pub exact: bool,
 }
 
-/// What a finite float becomes.
+/// What a finite float becomes, by [`hundredths`].
+///
+/// It is exact where 100 times its exact value is a whole number; else it was rounded. As floats are binary, those that are exact are the whole
+/// quarters of a knot: 140.25 is, and 0.0 and -0.0 are; 140.10 is rounded, as no `f32` is 140.10 and a file has the nearest one; every subnormal is
+/// rounded. That a float was rounded is no fault: a sample takes its hundredths.
 #[derive(Clone, Copy, Debug, PartialEq, Eq)]
 pub struct Hundredths {
     /// 100 times the float's exact value, nearest, ties away from zero; cut to between -[`HUNDREDTHS_LIMIT`] and [`HUNDREDTHS_LIMIT`]
     pub number: i32,
-    /// whether 100 times the float's exact value is a whole number, cut or not; else it was rounded
+    /// whether it was exact, else rounded: judged by its value, not by the cut, so 3.4e38 is exact
     pub exact: bool,
-    /// whether the hundredths were cut: they are beyond the limit
+    /// whether the rounded hundredths are beyond [`HUNDREDTHS_LIMIT`] either way, and were cut to it
     pub cut: bool,
 }
 
@@ -419,18 +440,25 @@ impl Answer {
     }
 }
 
-/// The hundredths that the float of a pattern becomes, and whether it was exact; `None` where it is not finite.
+/// The hundredths that the float of a pattern becomes, whether it was exact and whether it was cut; `None` where it is not finite, and so neither
+/// exact nor rounded. A record's floats become its sample's speeds in the same way.
 ///
 /// ```
 /// use windshear::{hundredths, Hundredths, HUNDREDTHS_LIMIT};
 ///
 /// let of = |knots: f32| hundredths(knots.to_bits());
 /// assert_eq!(of(140.25), Some(Hundredths { number: 14_025, exact: true, cut: false }));
-/// // No binary32 is 140.10: the nearest one is rounded to its hundredths.
+/// // No f32 is 140.10: the nearest one is rounded to its hundredths, as are a tie and the least subnormal.
 /// assert_eq!(of(140.10), Some(Hundredths { number: 14_010, exact: false, cut: false }));
+/// assert_eq!(of(-0.125), Some(Hundredths { number: -13, exact: false, cut: false }));
+/// assert_eq!(hundredths(1), Some(Hundredths { number: 0, exact: false, cut: false }));
+/// assert_eq!(of(-0.0), Some(Hundredths { number: 0, exact: true, cut: false }));
+/// // The limit itself is not cut. Beyond it a float is exact or rounded all the same.
 /// assert_eq!(of(10_000.0), Some(Hundredths { number: HUNDREDTHS_LIMIT, exact: true, cut: false }));
 /// assert_eq!(of(10_000.5), Some(Hundredths { number: HUNDREDTHS_LIMIT, exact: true, cut: true }));
-/// assert_eq!(of(f32::INFINITY), None);
+/// assert_eq!(of(-10_000.1), Some(Hundredths { number: -HUNDREDTHS_LIMIT, exact: false, cut: true }));
+/// assert_eq!(of(f32::MAX), Some(Hundredths { number: HUNDREDTHS_LIMIT, exact: true, cut: true }));
+/// assert_eq!([f32::INFINITY, f32::NAN].map(of), [None; 2]);
 /// ```
 pub fn hundredths(bits: u32) -> Option<Hundredths> {
     // SAFETY: the function is proved to be defined for every pattern, and takes no pointer.
@@ -464,8 +492,8 @@ pub fn test_file(file: &[u8]) -> FileTest {
     unsafe { windshear_test_file(file.as_ptr(), file.len()) }
 }
 
-/// The record at a place from 0, as the file has it, the sample that a run takes it as, and whether its floats were exact hundredths. Other records of
-/// the file may be refused.
+/// The record at a place from 0, as the file has it, with the sample that a run takes it as and whether its floats were exact hundredths; or why
+/// there is none to read. Other records of the file may be refused.
 ///
 /// ```
 /// use windshear::{read_record, refusal, write_header, write_record, Record, Unread, HEADER_SIZE, RECORD_SIZE};
@@ -495,6 +523,7 @@ pub fn read_record(file: &[u8], place: usize) -> Result<Reading, Unread> {
 
 /// Runs a whole file from the fresh state: [`ANSWER_SIZE`] bytes a record into `answers`, or a refusal, and `answers` stays as it was.
 /// The bytes are alert, voice, the command in 2 (signed), the held shear in 4 (signed, not cut), guidance, a zero; the lowest byte first.
+/// They do not say whether a record's floats were exact: [`read_record`] does.
 ///
 /// A run of no records is good, and its answers are empty:
 ///
@@ -540,5 +569,6 @@ const _: () = {
     assert!(size_of::<Outcome>() == 4 && offset_of!(Outcome, place) == 2);
     assert!(size_of::<FileTest>() == 6 && offset_of!(FileTest, count) == 4);
     assert!(size_of::<Found>() == 72 && offset_of!(Found, exact) == 4 && offset_of!(Found, record) == 8 && offset_of!(Found, sample) == 32);
-    assert!(size_of::<Converted>() == 12 && offset_of!(Converted, exact) == 2 && offset_of!(Converted, cut) == 4 && offset_of!(Converted, hundredths) == 8);
+    assert!(size_of::<Converted>() == 12 && offset_of!(Converted, exact) == 2 && offset_of!(Converted, cut) == 4);
+    assert!(offset_of!(Converted, hundredths) == 8);
 };
