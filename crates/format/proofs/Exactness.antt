@@ -1,9 +1,9 @@
--- Whether a float is exact: by its hundredths, and by the fields of its pattern, which are the sign s, the exponent's field e and the digits t.
+-- Whether a float is exact: by its hundredths, by quarters of a knot, and by the fields of its pattern, which are the sign s, the exponent's field e and the digits t.
 -- Where e is neither 0 nor 255 the number is ± (8388608 + t) × 2 ^ e / 2 ^ 150.
 use mathlib.Core.Path.{_≡_, refl, sym, ap, _∙_}
 use mathlib.Core.Bool.{Bool, true, false, cond}
 use Prim.Native.Nat.{ℕ, zero, suc, _+_, _-_, _*_, _/_, _%_, _^_, _≤_, _<_}
-use native.Mathlib.Nat.{add-zero, mod-eq-of-lt, mul-mod-left, mul-right-comm, mul-pos, one-mul, div-add-mod', eq-of-mul-eq-mul-right, lt-of-lt-of-le}
+use native.Mathlib.Nat.{pow-succ', add-zero, mod-eq-of-lt, mul-mod-left, mul-right-comm, mul-pos, one-mul, div-add-mod', eq-of-mul-eq-mul-right, lt-of-lt-of-le}
 use native.Mathlib.Decide.{decLt}
 use native.Mathlib.Omega.{arith}
 use borrow.Author.Tests.{eq-eqb, ne-eqb, eqb-true, lt-ltb}
@@ -12,11 +12,11 @@ use lib.Pow.{pow-pos, pow-mono, pow-add, shl-lt, shl-exact}
 use lib.Ieee.{Float, nan, inf, fin, binary32, up, down, odd, ofFields, ofBits}
 use lib.Ieee.Exact.{HasValue, odd-sign}
 use lib.Ieee.Fits.{down-pos}
-use lib.IntN.{ℤ, pos, natAbs, _*ℤ_}
+use lib.IntN.{ℤ, pos, negsuc, natAbs, _*ℤ_}
 use Rattle.rounding.specs.Rounding.{roundAway}
 use Rattle.rounding.proofs.Fits.{size-mul}
 use Rattle.rounding.proofs.Rounding.{round-whole}
-use Rattle.format.specs.Claims.{Equals, ExactKeeps}
+use Rattle.format.specs.Claims.{Equals, ExactKeeps, ExactQuarters}
 use Rattle.format.specs.Float.{hundredthsOf, exactFloat}
 use Rattle.format.proofs.Fields.{signed, signed-size, signed-times}
 
@@ -67,6 +67,42 @@ only s m e h l =
 
 pub exact-keeps : ExactKeeps
 exact-keeps = record { keeps = keeps; only = only }
+
+-- ════ By quarters ════
+
+-- what is whole over a power of two 25 times is whole once
+once : (k y q : ℕ) → 25 * y ≡ q * 2 ^ k → y % 2 ^ k ≡ 0
+once zero y q h = omega arith
+once (suc k) y q h =
+    let p : 2 ^ suc k ≡ 2 ^ k * 2 = rw pow-succ' (omega arith) in
+    let even : 25 * y ≡ 2 * (q * 2 ^ k) = h ∙ rw p (omega arith) in
+    let z = q * 2 ^ k - 12 * y in
+    let half : y ≡ 2 * z = omega arith in
+    let less : 25 * z ≡ q * 2 ^ k = omega arith in
+    let w : z / 2 ^ k * 2 ^ k ≡ z = whole-is z (2 ^ k) (once k z q less) in
+    let e : y ≡ z / 2 ^ k * 2 ^ suc k = rw p (omega arith) in
+    ap (λ (n : ℕ). n % 2 ^ suc k) e ∙ mul-mod-left (z / 2 ^ k) (2 ^ suc k)
+
+over : (k x : ℕ) → eqb (100 * x % 2 ^ k) 0 ≡ eqb (4 * x % 2 ^ k) 0
+over k x = go (eqb (100 * x % d) 0) (eqb (4 * x % d) 0) refl refl
+  where
+    d : ℕ
+    d = 2 ^ k
+
+    go : (a b : Bool) → eqb (100 * x % d) 0 ≡ a → eqb (4 * x % d) 0 ≡ b → a ≡ b
+    go true b u v =
+        let w = whole-is (100 * x) d (eqb-true (100 * x % d) 0 u) in
+        sym (eq-eqb (4 * x % d) 0 (once k (4 * x) (100 * x / d) (omega (arith, w)))) ∙ v
+    go false true u v =
+        let w = whole-is (4 * x) d (eqb-true (4 * x % d) 0 v) in
+        let e : 100 * x ≡ 25 * (4 * x / d) * d = omega (arith, w) in
+        sym u ∙ eq-eqb (100 * x % d) 0 (ap (λ (n : ℕ). n % d) e ∙ mul-mod-left (25 * (4 * x / d)) d)
+    go false false u v = refl
+
+pub exact-quarters : ExactQuarters
+unfolding ExactQuarters exactFloat
+exact-quarters s m (pos k) = over 0 (m * up (pos k))
+exact-quarters s m (negsuc k) = over (suc k) (m * up (negsuc k))
 
 -- ════ By the value, and by the fields ════
 
