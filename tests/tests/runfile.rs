@@ -10,16 +10,6 @@ use windshear_tests::gen::*;
 use windshear_tests::library::{converted, refused};
 use windshear_tests::reference::{self, read_record, Record};
 
-/// All signs and exponents.
-#[test]
-fn hundredths_of_every_sign_and_exponent() {
-    let (mut rng, both) = (Rng::new(50), Both::new());
-    let missing = float_patterns(&mut rng).filter(|&bits| both.hundredths(bits).is_none());
-    assert_eq!(missing.count(), 2 * 8_072);
-    both.done();
-    assert!(both.compared() > 8_000_000);
-}
-
 /// Every pattern that there is.
 #[test]
 #[ignore = "takes a minute"]
