@@ -4,12 +4,12 @@ use crate::files::right_len;
 use crate::gen::CALM;
 use crate::lend::lend;
 use crate::library::{
-    cut, expected, record_bits, refused, sent, sent_record, state_of, with_entries,
+    converted, expected, record_bits, refused, sent, sent_record, state_of, with_entries,
 };
 use crate::program::listed;
-use crate::reference::{self, Answer, Record, Sample, Unit, WINDOWS};
+use crate::reference::{self, Answer, Reading, Record, Sample, Unit, WINDOWS};
 use std::cell::Cell;
-use windshear::{FileTest, Outcome, State, Unread};
+use windshear::{FileTest, Hundredths, Outcome, State, Unread};
 
 /// Makes the calls, and counts the answers, states and buffers that it compared.
 #[derive(Default)]
@@ -89,10 +89,13 @@ impl Both {
         self.play(&[before, changed])[1].shear
     }
 
-    /// A pattern's hundredths, as far as the library's cut.
-    pub fn hundredths(&self, bits: u32) -> Option<i32> {
+    /// A pattern's hundredths, as far as the library's cut, whether it was exact, and whether it was cut.
+    pub fn hundredths(&self, bits: u32) -> Option<Hundredths> {
         let found = windshear::hundredths(bits);
-        assert_eq!(found, reference::hundredths(bits).map(cut), "{bits:#010x}");
+        let exact = reference::exact(bits);
+        let want = reference::hundredths(bits).zip(exact);
+        let want = want.map(|(hundredths, exact)| converted(hundredths, exact));
+        assert_eq!(found, want, "{bits:#010x}");
         self.count(1);
         found
     }
@@ -137,13 +140,13 @@ impl Both {
         test
     }
 
-    /// The record at a place by its bits, and its sample.
-    pub fn read_record(&self, file: &[u8], place: usize) -> Result<(Record, Sample), Option<u8>> {
+    /// The record at a place by its bits, its sample, and whether it was exact.
+    pub fn read_record(&self, file: &[u8], place: usize) -> Result<Reading, Option<u8>> {
         let want = reference::record_at(file, place);
         let read = windshear::read_record(file, place);
-        let bits = read.map(|(record, sample)| (record_bits(&record), sample));
+        let bits = read.map(|read| (record_bits(&read.record), read.sample, read.exact));
         let expected = want
-            .map(|(record, sample)| (record, sent(&sample)))
+            .map(|want| (want.record, sent(&want.sample), want.exact))
             .map_err(|number| number.map_or(Unread::NoSuchPlace, |n| Unread::Refused(n.into())));
         assert_eq!(bits, expected, "place {place} of {} bytes", file.len());
         self.count(1 + u64::from(want.is_ok()));

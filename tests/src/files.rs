@@ -106,16 +106,21 @@ pub fn damaged_file(rng: &mut Rng, given: &[Vec<u8>]) -> Vec<u8> {
     file
 }
 
-/// Patterns of floats of all signs and exponents, with mantissas beside every power of two and
-/// random ones; more where the hundredths are neither all 0 nor all beyond every range.
+/// Mantissas beside every power of two, and so many random ones.
+pub fn mantissas(rng: &mut Rng, random: usize) -> Vec<u32> {
+    let turning = (0..=23).flat_map(|k| [-1, 0, 1].map(|beside| (1 << k) + beside));
+    let random = (0..random).map(|_| rng.draw() as i32);
+    let mantissas = turning.chain(random);
+    mantissas.map(|m| m as u32 & 0x7f_ffff).collect()
+}
+
+/// Patterns of floats of all signs and exponents, with many mantissas; more where the hundredths are
+/// neither all 0 nor all beyond every range.
 pub fn float_patterns(rng: &mut Rng) -> impl Iterator<Item = u32> + '_ {
     (0..512).flat_map(|top| {
-        let turning = (0..=23).flat_map(|k| [-1, 0, 1].map(|beside| (1 << k) + beside));
         let all_alike = !(118..=141).contains(&(top % 256));
-        let random = (0..if all_alike { 8_000 } else { 100_000 }).map(|_| rng.draw() as i32);
-        let random: Vec<i32> = random.collect();
-        let mantissas = turning.chain(random);
-        mantissas.map(move |mantissa| top << 23 | mantissa as u32 & 0x7f_ffff)
+        let mantissas = mantissas(rng, if all_alike { 8_000 } else { 100_000 });
+        mantissas.into_iter().map(move |m| top << 23 | m)
     })
 }
 

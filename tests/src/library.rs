@@ -1,7 +1,7 @@
 //! The library's types from the reference's.
 
 use crate::reference::{self, WINDOWS};
-use windshear::{Answer, Core, Outcome, Record, Sample, State, Sums};
+use windshear::{Answer, Core, Hundredths, Outcome, Record, Sample, State, Sums};
 
 /// The sample as the library takes it.
 pub fn sent(s: &reference::Sample) -> Sample {
@@ -144,7 +144,13 @@ pub fn record_bits(r: &Record) -> reference::Record {
     }
 }
 
-/// As the library cuts hundredths, at a million either way.
-pub fn cut(hundredths: i128) -> i32 {
-    hundredths.clamp(-1_000_000, 1_000_000) as i32
+/// What a float is converted to that has these hundredths: they are cut at a million either way, and it
+/// is said where they were.
+pub fn converted(hundredths: i128, exact: bool) -> Hundredths {
+    let number = hundredths.clamp(-1_000_000, 1_000_000);
+    Hundredths {
+        number: number as i32,
+        exact,
+        cut: number != hundredths,
+    }
 }

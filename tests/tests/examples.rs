@@ -55,6 +55,25 @@ fn what_they_show() {
     both.done();
 }
 
+/// How many lines of each listing are exact, and rounded: 01's three are all exact, and the others show both.
+#[test]
+fn floats_of_both_kinds() {
+    let both = Both::new();
+    for (name, file) in examples() {
+        let text = both.listing(&file);
+        let lines = ["exact", "rounded"].map(|word| text.matches(&format!(" {word}\n")).count());
+        let wanted = match name {
+            "calm" => [4, 36],
+            "gust" => [3, 0],
+            "microburst" => [54, 546],
+            "plateau" => [90, 200],
+            _ => [0, 0],
+        };
+        assert_eq!(lines, wanted, "{name}");
+    }
+    both.done();
+}
+
 /// README's listings: the gust's whole, and of the microburst's the lines where the alert, the voice or guidance changes.
 #[test]
 fn readme_listings() {

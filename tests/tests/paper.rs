@@ -1,10 +1,10 @@
-//! Every worked figure of the scope paper, as request A1 of paper 02 changed it, held against the reference and the library;
-//! quoted names are the scope paper's sections.
+//! Every worked figure of the scope paper, as requests A1 and A2 of paper 02 changed it, held against the reference and the
+//! library; quoted names are the scope paper's sections.
 
 use windshear_tests::both::{Both, Pair};
 use windshear_tests::files::file_of_samples;
 use windshear_tests::gen::*;
-use windshear_tests::library::cut;
+use windshear_tests::library::converted;
 use windshear_tests::reference::{self, read_record, Answer, Record, Sample, CUT, RANGES, WINDOWS};
 
 /// The places of the answers with this alert.
@@ -649,7 +649,7 @@ fn accessors() {
 #[test]
 fn floats() {
     let both = Both::new();
-    let of = |knots: f32| both.hundredths(knots.to_bits());
+    let of = |knots: f32| both.hundredths(knots.to_bits()).map(|h| h.number);
     assert_eq!((of(0.125), of(-0.125)), (Some(13), Some(-13)));
     assert_eq!(
         (of(-0.0), of(f32::from_bits(1)), of(-f32::from_bits(1))),
@@ -676,14 +676,18 @@ fn floats() {
         (f32::MIN, -i128::MAX),
     ] {
         assert_eq!(reference::hundredths(knots.to_bits()), Some(whole));
-        assert_eq!(of(knots), Some(cut(whole)));
+        assert_eq!(
+            both.hundredths(knots.to_bits()),
+            Some(converted(whole, true))
+        );
     }
     // Against exact arithmetic in f64, where 100 × the float has at most 31 bits.
     for bits in (0..0x4c00_0000_u32).step_by(9_973) {
-        let exact = (f64::from(f32::from_bits(bits)) * 100.0).round() as i128;
-        for (bits, exact) in [(bits, exact), (bits | 1 << 31, -exact)] {
-            assert_eq!(reference::hundredths(bits), Some(exact));
-            assert_eq!(both.hundredths(bits), Some(cut(exact)));
+        let exact = f64::from(f32::from_bits(bits)) * 100.0;
+        let (nearest, whole) = (exact.round() as i128, exact.fract() == 0.0);
+        for (bits, nearest) in [(bits, nearest), (bits | 1 << 31, -nearest)] {
+            assert_eq!(reference::hundredths(bits), Some(nearest));
+            assert_eq!(both.hundredths(bits), Some(converted(nearest, whole)));
         }
     }
     both.done();
@@ -976,16 +980,18 @@ fn header_refusals() {
 #[test]
 fn listings() {
     let both = Both::new();
-    let example_text = "sample shear alert voice command\n\
-        0 0 none 0 off\n1 2098349 none 0 off\n2 7143 none 0 off\nred 0 amber 0\n";
+    let example_text = "sample shear alert voice command float\n0 0 none 0 off exact\n\
+        1 2098349 none 0 off exact\n2 7143 none 0 off exact\nred 0 amber 0\n";
     assert_eq!(both.listing(&file(&both, &example())), example_text);
-    let red = "59 71429 none 0 off\n60 71429 red 1 5000\n61 0 red 1 5075\nred 1 amber 0\n";
+    let red = "59 71429 none 0 off exact\n60 71429 red 1 5000 exact\n61 0 red 1 5075 exact\n\
+        red 1 amber 0\n";
     assert!(both.listing(&exposed(1, 2)).ends_with(red));
-    let amber = "59 -71429 none 0 off\n60 -71429 amber 0 off\n61 0 amber 0 off\nred 0 amber 1\n";
+    let amber = "59 -71429 none 0 off exact\n60 -71429 amber 0 off exact\n\
+        61 0 amber 0 off exact\nred 0 amber 1\n";
     assert!(both.listing(&exposed(-1, 2)).ends_with(amber));
     assert_eq!(
         both.listing(&file(&both, &[])),
-        "sample shear alert voice command\nred 0 amber 0\n"
+        "sample shear alert voice command float\nred 0 amber 0\n"
     );
     assert_eq!(both.listing(b""), "refused 1 at 0\n");
     let mut long = file(&both, &vec![example()[0]; 2_600]);

@@ -352,7 +352,7 @@ fn a_program_that_fails_ends_with_2() {
         ("built in name only", with_rt("/bin/true"), fault("the program can't be built")),
         ("built", with_rt("/bin/sh"), left(0, &text, "proving\n")),
     ];
-    let header = "sample shear alert voice command";
+    let header = "sample shear alert voice command float";
     for (tried, does, wanted) in [
         ("crashed", "kill -s SEGV $$".into(), fault("the program ended with status 139")),
         ("killed at work", format!("echo {header}; kill -s KILL $$"), fault("the program ended with status 137")),

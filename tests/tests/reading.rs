@@ -1,5 +1,5 @@
 //! Run files read back through the library, beside the reference: a file's own test, the record at
-//! a place with its sample, and both round trips, of good and damaged bytes.
+//! a place with its sample and whether it was exact, and both round trips, of good and damaged bytes.
 
 use std::collections::BTreeMap;
 use std::ops::RangeInclusive;
@@ -10,7 +10,7 @@ use windshear_tests::examples::examples;
 use windshear_tests::files::*;
 use windshear_tests::gen::*;
 use windshear_tests::library::{sent, sent_record};
-use windshear_tests::reference::{read_record, Record};
+use windshear_tests::reference::{read_record, Reading, Record};
 
 #[path = "../../bindings/rust/examples/offer.rs"]
 mod offer;
@@ -28,12 +28,13 @@ fn far_places() -> Vec<usize> {
         .collect()
 }
 
-/// Calls of the reference and the library; how often a record was found, a place was not there,
-/// and each number came, for a place and for a whole file.
+/// Calls of the reference and the library; how often a record was found, an exact one, a place was not
+/// there, and each number came, for a place and for a whole file.
 #[derive(Default)]
 struct Tally {
     both: Both,
     found: u64,
+    exact: u64,
     no_place: u64,
     came: BTreeMap<u8, u64>,
     tested: BTreeMap<u16, u64>,
@@ -43,8 +44,9 @@ impl Tally {
     /// The record at a place; where it is found, it is written as it was read, and what was written is read again.
     fn read(&mut self, file: &[u8], place: usize) -> Result<Record, Option<u8>> {
         match self.both.read_record(file, place) {
-            Ok((record, _)) => {
+            Ok(Reading { record, exact, .. }) => {
                 self.found += 1;
+                self.exact += u64::from(exact);
                 let bytes = self.both.write_record(&record, 24).unwrap();
                 assert_eq!(bytes, file[8 + 24 * place..][..24]);
                 Ok(record)
@@ -85,13 +87,19 @@ impl Tally {
     /// Prints the line, and tests that exactly these numbers came, with records and missing places.
     fn done(&self, what: &str, numbers: &[RangeInclusive<u8>]) {
         let (compared, found, no_place) = (self.both.compared(), self.found, self.no_place);
-        println!("compared {compared} records, samples, bytes and numbers of {what}: {found} records, {no_place} places not there, by number {:?}, whole files {:?}", self.came, self.tested);
+        let (exact, rounded) = (self.exact, found - self.exact);
+        println!("compared {compared} records, samples, bytes and numbers of {what}: {exact} exact records, {rounded} rounded ones, {no_place} places not there, by number {:?}, whole files {:?}", self.came, self.tested);
         assert!(found > 0 && no_place > 0);
         let numbers = || numbers.iter().cloned().flatten();
         assert!(self.came.keys().copied().eq(numbers()));
         let good = self.tested.get(&0).is_some();
         let tested = self.tested.keys().copied().filter(|&number| number != 0);
         assert!(good && tested.eq(numbers().map(u16::from)));
+    }
+
+    /// Tests that at least so many records were exact, and rounded.
+    fn both_kinds(&self, least: u64) {
+        assert!(self.exact >= least && self.found - self.exact >= least);
     }
 }
 
@@ -156,6 +164,7 @@ fn every_value_in_every_field() {
         }
     }
     tally.done("every value in every field", &[11..=20]);
+    tally.both_kinds(1_000);
 }
 
 /// All ten fields at once at good values, the ends of their ranges among them; now and then one bad.
@@ -214,6 +223,7 @@ fn floats_kept_bit_for_bit() {
     }
     assert!(subnormal > 500 && minus_zero >= 2);
     tally.done("floats of every sign and exponent", &[11..=13]);
+    tally.both_kinds(10);
 }
 
 /// Random records at every place of short files, and of one that is as long as can be; then some spoiled.
@@ -290,6 +300,7 @@ fn damaged_files() {
         tally.whole(&file);
     }
     tally.done("damaged files and random bytes", &[1..=6, 11..=20]);
+    tally.both_kinds(10_000);
 }
 
 /// The Rust example: an exposure lights a lamp and a gust does not; a refused sample leaves the lamp
