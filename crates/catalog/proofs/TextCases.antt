@@ -1,5 +1,6 @@
 -- The listing that 01 works out, as A1 and A2 of 02 change it, line by line, from the definitions: one list, one claim. Then a line and a total with
--- red, a refusal, numbers below 0, the greatest u32 with the least i32, and the longest line, of 60 bytes.
+-- red, a refusal, numbers below 0, the greatest u32 with the least i32, and the longest line that the code can be
+-- asked for, of 55 bytes.
 use mathlib.Core.Bool.{true, false}
 use mathlib.Core.List.{List, [], _∷_}
 use mathlib.Core.Path.{_≡_, refl}
@@ -26,7 +27,7 @@ cases =
     ∷ (refusedText 13 2, "refused 13 at 2\n")
     ∷ (lineText 10 (negℤ (pos 38)) 1 0 true (negℤ (pos 30000)) true, "10 -38 amber 0 -30000 exact\n")
     ∷ (lineText 4294967295 (negℤ (pos 2147483648)) 2 3 false (pos 0) true, "4294967295 -2147483648 red 3 off exact\n")
-    ∷ (lineText 4294967295 (negℤ (pos 2147483648)) 1 4294967295 true (negℤ (pos 2147483648)) false, "4294967295 -2147483648 amber 4294967295 -2147483648 rounded\n")
+    ∷ (lineText 4294967295 (negℤ (pos 2147483648)) 1 65535 true (negℤ (pos 2147483648)) false, "4294967295 -2147483648 amber 65535 -2147483648 rounded\n")
     ∷ []
 
 pub all-are : AllAre cases

@@ -117,6 +117,20 @@ digits-length (suc most) n =
     either (ltb n 10) (digit n) (digits most (n / 10) ++ digit (n % 10)) (omega arith)
     (rw length-append (omega (arith, digits-length most (n / 10))))
 
+-- a number of at most so many digits has no more
+digits-short : (k most n : ℕ) → n < 10 ^ suc k → length (digits most n) ≤ suc k
+unfolding digits digit
+digits-short k zero n h = omega arith
+digits-short zero (suc most) n h = rw (lt-ltb n 10 (omega arith)) (omega arith)
+digits-short (suc k) (suc most) n h =
+    either (ltb n 10) (digit n) (digits most (n / 10) ++ digit (n % 10)) (omega arith)
+    (rw length-append (omega (arith, digits-short k most (n / 10) (omega arith))))
+
+-- a u16
+pub decimal-five : (n : ℕ) → n < 65536 → length (decimal n) ≤ 5
+unfolding decimal
+decimal-five n h = digits-short 4 10 n (omega arith)
+
 pub decimal-length : (n : ℕ) → length (decimal n) ≤ 10
 unfolding decimal
 decimal-length n = digits-length 10 n
@@ -169,7 +183,7 @@ pub float-length : (exact : Bool) → length (floatWord exact) ≤ 7
 unfolding floatWord
 float-length exact = either exact (ascii "exact") (ascii "rounded") (omega arith) (omega arith)
 
--- 60 bytes are enough for a line; `TextCases` has one that needs them
+-- enough for a line of any numbers below 10 ^ 10; `text::line`, whose voice is a u16, asks for 55
 pub line-length : (place : ℕ) (shear : ℤ) (alert voice : ℕ) (shown : Bool) (command : ℤ) (exact : Bool)
     → length (lineText place shear alert voice shown command exact) ≤ 60
 unfolding lineText

@@ -114,7 +114,7 @@ pub(crate) fn line(
     command: i32,
     exact: bool,
 ) -> usize
-    requires { ⌜ at + 60 ≤ length (now out) ⌝ }
+    requires { ⌜ at + 55 ≤ length (now out) ⌝ }
     ensures { λ r. ⌜ Wrote (now (out .entry)) at (lineText place shear alert voice shown command exact) r (now (out .exit)) ⌝ }
 {
     let a = number(out, at, place);

@@ -16,7 +16,7 @@ use lib.IntN.{ℤ, pos, negsuc, natAbs, _*ℤ_}
 use Rattle.rounding.specs.Rounding.{roundAway}
 use Rattle.rounding.proofs.Fits.{size-mul}
 use Rattle.rounding.proofs.Rounding.{round-whole}
-use Rattle.format.specs.Claims.{Equals, ExactKeeps, ExactQuarters}
+use Rattle.format.specs.Claims.{HundredthsAre, ExactKeeps, ExactQuarters}
 use Rattle.format.specs.Float.{hundredthsOf, exactFloat}
 use Rattle.format.proofs.Fields.{signed, signed-size, signed-times}
 
@@ -48,8 +48,8 @@ fraction n d p h = ap (λ (r : ℕ). eqb r 0) (mod-eq-of-lt h) ∙ ne-eqb n 0 (�
 
 -- ════ By the hundredths ════
 
-keeps : (s : Bool) (m : ℕ) (e : ℤ) → exactFloat (fin s m e) ≡ true → Equals (hundredthsOf s m e) s m e
-unfolding exactFloat hundredthsOf Equals
+keeps : (s : Bool) (m : ℕ) (e : ℤ) → exactFloat (fin s m e) ≡ true → HundredthsAre (hundredthsOf s m e) s m e
+unfolding exactFloat hundredthsOf HundredthsAre
 keeps s m e h =
     let n = 100 * (m * up e) in
     let d = down e in
@@ -57,8 +57,8 @@ keeps s m e h =
     let whole : signed s q *ℤ pos d ≡ signed s n = signed-times s q d ∙ ap (signed s) (whole-is n d (eqb-true (n % d) 0 h)) in
     ap (λ (x : ℤ). roundAway x d *ℤ pos d) (sym whole) ∙ ap (λ (x : ℤ). x *ℤ pos d) (round-whole (signed s q) d (down-pos e)) ∙ whole
 
-only : (s : Bool) (m : ℕ) (e h : ℤ) → Equals h s m e → exactFloat (fin s m e) ≡ true
-unfolding exactFloat Equals
+only : (s : Bool) (m : ℕ) (e h : ℤ) → HundredthsAre h s m e → exactFloat (fin s m e) ≡ true
+unfolding exactFloat HundredthsAre
 only s m e h l =
     let n = 100 * (m * up e) in
     let d = down e in
@@ -170,6 +170,10 @@ no-number s t = go (eqb t 0)
 
 -- ════ By the pattern b, in the four ways of the code ════
 
+-- a divisor that is a power of two, none of it shifted out
+pub divisor : (k : ℕ) → k < 32 → 0 < 1 * 2 ^ k % 4294967296
+divisor k h = rw (shl-exact {a = 1} 1 k 32 (lit< tt) (omega arith), one-mul) (pow-pos k)
+
 module _ (b : ℕ) where
   abbrev s : Bool
   s = leb 2147483648 b
@@ -201,9 +205,6 @@ module _ (b : ℕ) where
       let d : 150 - suc x ≡ 149 - x = omega arith in
       let w : 1 * 2 ^ (149 - x) % 2 ^ 32 ≡ 2 ^ (149 - x) = shl-exact {a = 1} 1 (149 - x) 32 (lit< tt) (omega arith) ∙ one-mul (2 ^ (149 - x)) in
       rw (d, w) (sym (middle s x t (omega arith)))
-
-  pub divisor : 119 ≤ e → 0 < 1 * 2 ^ (150 - e) % 4294967296
-  divisor k = rw (shl-exact {a = 1} 1 (150 - e) 32 (lit< tt) (omega arith), one-mul) (pow-pos (150 - e))
 
   pub of-middle : 119 ≤ e → e ≤ 149 → eqb (100 * (8388608 + t) % (1 * 2 ^ (150 - e) % 4294967296)) 0 ≡ exactFloat (ofBits binary32 b)
   unfolding ofBits

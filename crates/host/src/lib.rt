@@ -21,8 +21,8 @@ use unit::Offered;
 use unit::Sample;
 use unit::State;
 
-// The hundredths of a float, cut at a million either way; exact is 1 where 100 times its exact value is a whole number, and cut where the hundredths
-// were cut. Where it is not finite all is 0.
+// The hundredths of a finite float, cut at a million either way: finite is 1; exact is 1 where 100 times its exact value is a whole number; cut is 1
+// where the hundredths are beyond a million. Where it is not finite all is 0.
 #[repr(C)]
 pub struct ConvertedFloat {
     pub finite: u16,
@@ -57,7 +57,7 @@ pub extern "C" fn windshear_offer_lent(state: &mut State, sample: Sample) -> Ans
     r.answer
 }
 
-// The hundredths that the float of a pattern becomes, and whether it was exact.
+// The hundredths that the float of a pattern becomes, whether it was exact, and whether they were cut.
 #[no_mangle]
 pub extern "C" fn windshear_hundredths(bits: u32) -> ConvertedFloat
     ensures { λ r. ⌜ r ≡ convertedNumbers (convertedOf (Ieee.ofBits binary32 bits)) ⌝ }
@@ -102,7 +102,8 @@ pub extern "C" fn windshear_test_file(file: &[u8]) -> FileTest
     runfile::run::test_file(file)
 }
 
-// The record at a place, from 0, with its sample and whether its floats were exact; or why there is none to read: 1 to 6, 11 to 20, or 0 where the file has no such place.
+// The record at a place, from 0, with its sample and whether its floats were exact; or why there is none to read: 1 to 6, 11 to 20, or 0 where the
+// file has no such place.
 #[no_mangle]
 pub extern "C" fn windshear_read_record(file: &[u8], place: usize) -> Reading
     ensures { λ r. ⌜ r ≡ readingOf (now (file .entry)) place ⌝ }

@@ -1,4 +1,4 @@
--- `text::line` meets its contract: after each call the text so far stands in the buffer, with room for the rest of 60 bytes.
+-- `text::line` meets its contract: after each call the text so far stands in the buffer, with room for the rest of 55 bytes.
 use mathlib.Core.List.{List, _++_}
 use mathlib.Core.Path.{_∙_}
 use Prim.Native.Nat.{ℕ}
@@ -8,7 +8,7 @@ use mir.Syntax.{w32}
 use mir.Val.{toZ, ofZ}
 use mir.Facts.{toZ-ofZ}
 use Rattle.catalog.specs.Text.{decimal, signed, space, lineFeed, alertWord, commandText, floatWord, lineText}
-use Rattle.catalog.proofs.TextLaws.{Grown, nothing, next, last, room, kept, decimal-length, signed-length, alert-length, command-length, float-length}
+use Rattle.catalog.proofs.TextLaws.{Grown, nothing, next, last, room, kept, decimal-length, decimal-five, signed-length, alert-length, command-length, float-length}
 use Rattle.catalog.proofs.text.line.Statement.{statement}
 use Rattle.catalog.proofs.text.line.Tie as tie
 
@@ -54,38 +54,38 @@ Stands s text after new left = Grown (s .args .out .now) (s .args .at) text afte
 abbrev from1 : tie.After-number → tie.Start
 from1 c = c .before .before .before
 
-after1 : (c : tie.After-number) → Stands (from1 c) (text1 (from1 c)) (c .number .result) (c .number .last .0) 50
+after1 : (c : tie.After-number) → Stands (from1 c) (text1 (from1 c)) (c .number .result) (c .number .last .0) 45
 after1 c =
     let s = from1 c in
-    next (decimal (s .args .place)) (nothing {left = 60} (omega (arith, s .pre))) (omega (arith, decimal-length (s .args .place))) (c .number .ensures)
+    next (decimal (s .args .place)) (nothing {left = 55} (omega (arith, s .pre))) (omega (arith, decimal-length (s .args .place))) (c .number .ensures)
 
 abbrev from2 : tie.After-byte → tie.Start
 from2 c = from1 (c .before .before .before .before)
 
-after2 : (c : tie.After-byte) → Stands (from2 c) (text2 (from2 c)) (c .byte .result) (c .byte .last .0) 49
+after2 : (c : tie.After-byte) → Stands (from2 c) (text2 (from2 c)) (c .byte .result) (c .byte .last .0) 44
 after2 c = next space (after1 (c .before .before .before .before)) (omega arith) (c .byte .ensures)
 
 abbrev from3 : tie.After-signed → tie.Start
 from3 c = from2 (c .before .before .before .before)
 
-after3 : (c : tie.After-signed) → Stands (from3 c) (text3 (from3 c)) (c .signed .result) (c .signed .last .0) 38
+after3 : (c : tie.After-signed) → Stands (from3 c) (text3 (from3 c)) (c .signed .result) (c .signed .last .0) 33
 after3 c =
     let s = from3 c in
     let x = toZ w32 (ofZ w32 (s .args .shear)) in
     let short = signed-length x in
-    let stands = next (signed x) {rest = 38} (after2 (c .before .before .before .before)) (omega arith) (c .signed .ensures) in
+    let stands = next (signed x) {rest = 33} (after2 (c .before .before .before .before)) (omega arith) (c .signed .ensures) in
     rw (toZ-ofZ (s .fits .shear)) at stands
 
 abbrev from4 : tie.After-byte2 → tie.Start
 from4 c = from3 (c .before .before .before .before)
 
-after4 : (c : tie.After-byte2) → Stands (from4 c) (text4 (from4 c)) (c .byte2 .result) (c .byte2 .last .0) 37
+after4 : (c : tie.After-byte2) → Stands (from4 c) (text4 (from4 c)) (c .byte2 .result) (c .byte2 .last .0) 32
 after4 c = next space (after3 (c .before .before .before .before)) (omega arith) (c .byte2 .ensures)
 
 abbrev from5 : tie.After-alert-word → tie.Start
 from5 c = from4 (c .before .before .before .before)
 
-after5 : (c : tie.After-alert-word) → Stands (from5 c) (text5 (from5 c)) (c .alert-word .result) (c .alert-word .last .0) 32
+after5 : (c : tie.After-alert-word) → Stands (from5 c) (text5 (from5 c)) (c .alert-word .result) (c .alert-word .last .0) 27
 after5 c =
     let s = from5 c in
     next (alertWord (s .args .alert)) (after4 (c .before .before .before .before)) (omega (arith, alert-length (s .args .alert))) (c .alert-word .ensures)
@@ -93,7 +93,7 @@ after5 c =
 abbrev from6 : tie.After-byte3 → tie.Start
 from6 c = from5 (c .before .before .before .before)
 
-after6 : (c : tie.After-byte3) → Stands (from6 c) (text6 (from6 c)) (c .byte3 .result) (c .byte3 .last .0) 31
+after6 : (c : tie.After-byte3) → Stands (from6 c) (text6 (from6 c)) (c .byte3 .result) (c .byte3 .last .0) 26
 after6 c = next space (after5 (c .before .before .before .before)) (omega arith) (c .byte3 .ensures)
 
 abbrev from7 : tie.After-number2 → tie.Start
@@ -102,7 +102,7 @@ from7 c = from6 (c .before .before .before .before)
 after7 : (c : tie.After-number2) → Stands (from7 c) (text7 (from7 c)) (c .number2 .result) (c .number2 .last .0) 21
 after7 c =
     let s = from7 c in
-    next (decimal (s .args .voice)) (after6 (c .before .before .before .before)) (omega (arith, decimal-length (s .args .voice))) (c .number2 .ensures)
+    next (decimal (s .args .voice)) (after6 (c .before .before .before .before)) (omega (arith, decimal-five (s .args .voice) (search needs))) (c .number2 .ensures)
 
 abbrev from8 : tie.After-byte4 → tie.Start
 from8 c = from7 (c .before .before .before .before)

@@ -18,7 +18,7 @@ returns-3 : tie.Need-returns-3
 returns-3 c = of-large (c .before .before .before .args .bits) (c .if3 .taken)
 
 rem-result : tie.Need-rem-result
-rem-result c = divisor (c .before .before .before .before .args .bits) (c .before .before .if2 .left)
+rem-result c = divisor _ (omega (arith, c .before .before .if2 .left))
 
 returns-4 : tie.Need-returns-4
 returns-4 c =
