@@ -12,7 +12,7 @@ use windshear_tests::reference::{self, read_record, Record};
 
 /// Every pattern that there is.
 #[test]
-#[ignore = "takes a minute"]
+#[ignore = "takes 23 minutes"]
 fn hundredths_of_every_pattern() {
     let both = Both::new();
     for bits in 0..=u32::MAX {
