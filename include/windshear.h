@@ -9,8 +9,9 @@
  * WARNING: an answer to a refused sample has alert 0, which says nothing of the lamps: they stay as they were. A host that
  * shows `alert` without a look at `refusal` would darken a lit lamp.
  *
- * The layout of windshear_reading and windshear_converted changed when they came to hold `exact` (request A2). A program that was
- * compiled with an earlier header still links, and then reads wrong numbers or worse: compile it anew with this one.
+ * The layout of windshear_reading and windshear_converted changed when they came to hold `exact` (request A2). A program that calls
+ * windshear_read_record or windshear_hundredths and was compiled with an earlier header still links, and then reads wrong numbers
+ * or worse: compile it anew with this one.
  *
  * Twenty samples make a second. A program that lights the red lamp after five seconds at 140 kt in a downdraft of 29.4 kt, a shear
  * of 0.2100, and keeps it lit at a sample that is refused:

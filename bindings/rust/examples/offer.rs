@@ -54,7 +54,7 @@ pub fn main() {
     // the along wind grows by 4.2 kt a second for five seconds; then a sample that is refused
     let along_winds: Vec<i32> = (0..=100).map(|i| 21 * i).chain([20_001]).collect();
     println!("an exposure: {:?}", lamp_after(&along_winds));
-    // 140.25 kt is a float, and so exact; 140.1 kt is none, and the nearest one is rounded to its hundredths
+    // 140.25 kt, a whole number of quarters, is exact; no float is 140.1 kt, and the nearest one is rounded
     for airspeed in [140.25, 140.1] {
         let record = Record {
             airspeed,

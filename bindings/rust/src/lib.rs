@@ -321,21 +321,8 @@ pub enum Unread {
 
 /// A record that was read, by [`read_record`].
 ///
-/// A cataloguer can list by `exact` which records had exact hundredths in the file, and learn from [`hundredths`] which speed was rounded:
-///
-/// ```
-/// use windshear::{hundredths, read_record, write_header, write_record, Record, HEADER_SIZE, RECORD_SIZE};
-///
-/// let record = Record { along: -20.5, vertical: 0.75, airspeed: 140.10, height: 400, vs1: 10_000, ..Record::default() };
-/// let mut file = [0; HEADER_SIZE + RECORD_SIZE];
-/// assert_eq!(write_header(1, &mut file[..HEADER_SIZE]), 0);
-/// assert_eq!(write_record(&record, &mut file[HEADER_SIZE..]), 0);
-/// let read = read_record(&file, 0).unwrap();
-/// assert!(!read.exact);
-/// assert_eq!([read.sample.along, read.sample.vertical, read.sample.airspeed], [-2_050, 75, 14_010]);
-/// let speeds = [read.record.along, read.record.vertical, read.record.airspeed];
-/// assert_eq!(speeds.map(|knots| hundredths(knots.to_bits()).unwrap().exact), [true, true, false]);
-/// ```
+/// A cataloguer can list by `exact` which records had exact hundredths in the file, and learn from [`hundredths`] which float was rounded; README has
+/// the lines.
 #[derive(Clone, Copy, Debug, PartialEq)]
 pub struct Reading {
     /// the record as the file has it, its floats bit for bit

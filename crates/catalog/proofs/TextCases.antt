@@ -1,6 +1,5 @@
 -- The listing that 01 works out, as A1 and A2 of 02 change it, line by line, from the definitions: one list, one claim. Then a line and a total with
--- red, a refusal, numbers below 0, the greatest u32 with the least i32, and the longest line that the code can be
--- asked for, of 55 bytes.
+-- red, a refusal, numbers below 0, the greatest u32 with the least i32, and the longest line that the code can be asked for, of 55 bytes.
 use mathlib.Core.Bool.{true, false}
 use mathlib.Core.List.{List, [], _∷_}
 use mathlib.Core.Path.{_≡_, refl}

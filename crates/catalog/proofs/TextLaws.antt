@@ -183,7 +183,7 @@ pub float-length : (exact : Bool) → length (floatWord exact) ≤ 7
 unfolding floatWord
 float-length exact = either exact (ascii "exact") (ascii "rounded") (omega arith) (omega arith)
 
--- enough for a line of any numbers below 10 ^ 10; `text::line`, whose voice is a u16, asks for 55
+-- of any numbers, as `decimal` writes at most ten digits; `text::line`, whose voice is a u16, asks for 55
 pub line-length : (place : ℕ) (shear : ℤ) (alert voice : ℕ) (shown : Bool) (command : ℤ) (exact : Bool)
     → length (lineText place shear alert voice shown command exact) ≤ 60
 unfolding lineText

@@ -3,8 +3,6 @@ pub mod Signed16
 pub mod Patterns
 pub mod RoundTrip
 pub mod Headers
-pub mod Fields
-pub mod Exactness
 pub mod Starred
 pub mod RecordLaws
 pub mod RecordClaims

@@ -1,4 +1,3 @@
-pub mod Float
 pub mod Record
 pub mod Header
 pub mod Refusal

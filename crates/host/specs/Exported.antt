@@ -2,8 +2,8 @@
 use lib.IntN.{pos}
 use Rattle.host.specs.declared.ConvertedFloat.{ConvertedFloat}
 use Rattle.format.specs.Reading.{flag}
-use Rattle.format.specs.declared.float.Converted.{Converted}
-use Rattle.format.specs.declared.float.Converted.the-variants.{Hundredths, NotFinite}
+use Rattle.float.specs.declared.Converted.{Converted}
+use Rattle.float.specs.declared.Converted.the-variants.{Hundredths, NotFinite}
 
 -- 1, whether it was exact and whether it was cut, and the hundredths; or all 0: a float that is not finite is neither exact nor rounded
 unfoldable pub convertedNumbers : Converted → ConvertedFloat

@@ -5,14 +5,14 @@ ghost use lib.Ieee.{binary32};
 ghost use lib.ListN.{length};
 ghost use Rattle.host.specs.Exported.{convertedNumbers};
 ghost use Rattle.host.specs.Lent.{LentPromise};
-ghost use Rattle.format.specs.Float.{convertedOf};
+ghost use Rattle.float.specs.Float.{convertedOf};
 ghost use Rattle.format.specs.Header.{writeHeaderRefusal, writtenHeader};
 ghost use Rattle.format.specs.Reading.{readingOf};
 ghost use Rattle.format.specs.Refusal.{writeRecordRefusal, writtenRecord};
 ghost use Rattle.runfile.specs.Run.{RunPromise, fileTestOf};
 ghost use Rattle.unit.specs.Steps.{freshState, PlainPromise};
+use float::Converted;
 use format::Record;
-use format::float::Converted;
 use format::reading::Reading;
 use runfile::run::FileTest;
 use runfile::run::Outcome;
@@ -22,7 +22,7 @@ use unit::Sample;
 use unit::State;
 
 // The hundredths of a finite float, cut at a million either way: finite is 1; exact is 1 where 100 times its exact value is a whole number; cut is 1
-// where the hundredths are beyond a million. Where it is not finite all is 0.
+// where the rounded hundredths are beyond a million either way. Where it is not finite all is 0.
 #[repr(C)]
 pub struct ConvertedFloat {
     pub finite: u16,
@@ -62,7 +62,7 @@ pub extern "C" fn windshear_offer_lent(state: &mut State, sample: Sample) -> Ans
 pub extern "C" fn windshear_hundredths(bits: u32) -> ConvertedFloat
     ensures { λ r. ⌜ r ≡ convertedNumbers (convertedOf (Ieee.ofBits binary32 bits)) ⌝ }
 {
-    match format::float::hundredths(bits) {
+    match float::hundredths(bits) {
         Converted::Hundredths { number, exact, cut } => ConvertedFloat {
             finite: 1,
             exact: exact as u16,

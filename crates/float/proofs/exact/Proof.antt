@@ -4,9 +4,9 @@ use Prim.Native.Nat.{ℕ, _*_, _-_, _/_, _%_, _^_}
 use native.Mathlib.Omega.{arith}
 use borrow.Author.Needs.{needs}
 use lib.Dec.{eqb}
-use Rattle.format.proofs.Exactness.{divisor, of-zero, of-small, of-middle, of-large}
-use Rattle.format.proofs.float.exact.Statement.{statement}
-use Rattle.format.proofs.float.exact.Tie as tie
+use Rattle.float.proofs.Exactness.{divisor, of-zero, of-small, of-middle, of-large}
+use Rattle.float.proofs.exact.Statement.{statement}
+use Rattle.float.proofs.exact.Tie as tie
 
 returns : tie.Need-returns
 returns c = of-zero (c .before .args .bits) (omega (arith, c .if1 .taken))

@@ -1,24 +1,27 @@
--- Whether a float is exact: by its hundredths, by quarters of a knot, and by the fields of its pattern, which are the sign s, the exponent's field e and the digits t.
--- Where e is neither 0 nor 255 the number is ± (8388608 + t) × 2 ^ e / 2 ^ 150.
+-- Whether a float is exact, by its hundredths and by quarters of a knot; what its cut tells; and whether it is exact by the fields of its pattern:
+-- the sign s, the exponent's field e and the digits t. Where e is neither 0 nor 255 the number is ± (8388608 + t) × 2 ^ e / 2 ^ 150.
 use mathlib.Core.Path.{_≡_, refl, sym, ap, _∙_}
 use mathlib.Core.Bool.{Bool, true, false, cond}
 use Prim.Native.Nat.{ℕ, zero, suc, _+_, _-_, _*_, _/_, _%_, _^_, _≤_, _<_}
 use native.Mathlib.Nat.{pow-succ', add-zero, mod-eq-of-lt, mul-mod-left, mul-right-comm, mul-pos, one-mul, div-add-mod', eq-of-mul-eq-mul-right, lt-of-lt-of-le}
 use native.Mathlib.Decide.{decLt}
 use native.Mathlib.Omega.{arith}
-use borrow.Author.Tests.{eq-eqb, ne-eqb, eqb-true, lt-ltb}
+use borrow.Author.Tests.{eq-eqb, ne-eqb, eqb-true, lt-ltb, ltb-true, ltb-false}
 use lib.Dec.{eqb, ltb, leb, lit<, lit≤}
 use lib.Pow.{pow-pos, pow-mono, pow-add, shl-lt, shl-exact}
 use lib.Ieee.{Float, nan, inf, fin, binary32, up, down, odd, ofFields, ofBits}
 use lib.Ieee.Exact.{HasValue, odd-sign}
 use lib.Ieee.Fits.{down-pos}
 use lib.IntN.{ℤ, pos, negsuc, natAbs, _*ℤ_}
+use Rattle.rounding.specs.Cut.{cut}
 use Rattle.rounding.specs.Rounding.{roundAway}
+use Rattle.rounding.proofs.CutLaws.{cut-small}
 use Rattle.rounding.proofs.Fits.{size-mul}
 use Rattle.rounding.proofs.Rounding.{round-whole}
-use Rattle.format.specs.Claims.{HundredthsAre, ExactKeeps, ExactQuarters}
-use Rattle.format.specs.Float.{hundredthsOf, exactFloat}
-use Rattle.format.proofs.Fields.{signed, signed-size, signed-times}
+use Rattle.float.specs.Claims.{HundredthsAre, ExactKeeps, ExactQuarters, ToldWhenCut}
+use Rattle.float.specs.Float.{hundredthsOf, exactFloat, hundredthsLimit, cutOff, convertedOf}
+use Rattle.float.specs.declared.Converted.the-variants.{Hundredths}
+use Rattle.float.proofs.Fields.{signed, signed-size, signed-times}
 
 -- ════ Fractions ════
 
@@ -67,6 +70,26 @@ only s m e h l =
 
 pub exact-keeps : ExactKeeps
 exact-keeps = record { keeps = keeps; only = only }
+
+-- ════ By the cut ════
+
+whole : (s : Bool) (m : ℕ) (e n : ℤ) (exact : Bool) → convertedOf (fin s m e) ≡ Hundredths n exact false → n ≡ hundredthsOf s m e
+unfolding convertedOf cutOff
+whole s m e n exact c =
+    let h = hundredthsOf s m e in
+    let same : n ≡ cut hundredthsLimit h = cc in
+    let uncut : ltb hundredthsLimit (natAbs h) ≡ false = cc in
+    same ∙ cut-small hundredthsLimit h (ltb-false hundredthsLimit (natAbs h) uncut)
+
+beyond : (s : Bool) (m : ℕ) (e n : ℤ) (exact : Bool) → convertedOf (fin s m e) ≡ Hundredths n exact true → hundredthsLimit < natAbs (hundredthsOf s m e)
+unfolding convertedOf cutOff
+beyond s m e n exact c =
+    let h = hundredthsOf s m e in
+    let far : ltb hundredthsLimit (natAbs h) ≡ true = cc in
+    ltb-true hundredthsLimit (natAbs h) far
+
+pub told-when-cut : ToldWhenCut
+told-when-cut = record { whole = whole; beyond = beyond }
 
 -- ════ By quarters ════
 
