@@ -1,6 +1,5 @@
 pub mod TextCases
-pub mod TextLaws
+pub mod LineLaws
 pub mod ListingLaws
 pub mod TotalClaims
-pub mod LineLaws
 pub mod ListingClaims

@@ -2,17 +2,13 @@
 -- red, a refusal, numbers below 0, the greatest u32 with the least i32, and the longest line that the code can be asked for, of 55 bytes.
 use mathlib.Core.Bool.{true, false}
 use mathlib.Core.List.{List, [], _∷_}
-use mathlib.Core.Path.{_≡_, refl}
+use mathlib.Core.Path.{refl}
 use Prim.Native.Nat.{ℕ}
 use Prim.Native.String.{String}
 use lib.IntN.{pos, negℤ}
-use Rattle.catalog.specs.Text.{ascii, digit, digits, decimal, signed, alertWord, commandText, floatWord}
-use Rattle.catalog.specs.Text.{headerText, lineText, totalText, refusedText}
-
--- each text is what is printed beside it
-abbrev pub AllAre : List (List ℕ × String) → Type 0
-AllAre [] = Unit
-AllAre (row ∷ rows) = (row .0 ≡ ascii (row .1)) × AllAre rows
+use Rattle.text.specs.Text.{digit, digits, decimal, signedBy, signed}
+use Rattle.text.proofs.WriteCases.{AllAre}
+use Rattle.catalog.specs.Text.{alertWord, commandText, floatWord, headerText, lineText, totalText, refusedText}
 
 abbrev pub cases : List (List ℕ × String)
 cases =
@@ -30,5 +26,5 @@ cases =
     ∷ []
 
 pub all-are : AllAre cases
-unfolding digit digits decimal signed alertWord commandText floatWord headerText lineText totalText refusedText
+unfolding digit digits decimal signedBy signed alertWord commandText floatWord headerText lineText totalText refusedText
 all-are = (refl, (refl, (refl, (refl, (refl, (refl, (refl, (refl, (refl, (refl, (refl, tt)))))))))))

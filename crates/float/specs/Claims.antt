@@ -1,11 +1,14 @@
--- The claims on a float's conversion (02, A2), proved in proofs/Exactness.antt.
+-- The claims on a float's conversion (02, A2), proved in proofs/Exactness.antt, and on the float of so many hundredths (02, A3), proved in
+-- proofs/NearestLaws.antt and proofs/Closest.antt.
 use mathlib.Core.Bool.{Bool, true, false, cond}
 use mathlib.Core.Path.{_≡_}
-use Prim.Native.Nat.{ℕ, _*_, _%_, _<_}
-use lib.Dec.{eqb}
-use lib.Ieee.{fin, up, down}
+use Prim.Native.Nat.{ℕ, _*_, _%_, _≤_, _<_}
+use lib.Dec.{T, eqb}
+use lib.Ieee.{Float, nan, inf, fin, binary32, up, down, ne, fits}
+use lib.Ieee.Scale.{finite}
 use lib.IntN.{ℤ, pos, negℤ, natAbs, _*ℤ_}
-use Rattle.float.specs.Float.{hundredthsOf, exactFloat, hundredthsLimit, convertedOf}
+use Rattle.rounding.specs.Fraction.{Fraction, _over_, _-F_, _<F_, zeroF}
+use Rattle.float.specs.Float.{hundredthsOf, exactFloat, hundredthsLimit, convertedOf, nearestFloat, nearestLimit}
 use Rattle.float.specs.declared.Converted.the-variants.{Hundredths}
 
 -- ════ A float that was exact ════
@@ -30,3 +33,38 @@ ExactQuarters = (s : Bool) (m : ℕ) (e : ℤ) → exactFloat (fin s m e) ≡ eq
 pub record ToldWhenCut : Type 0 where
   pub whole : (s : Bool) (m : ℕ) (e n : ℤ) (exact : Bool) → convertedOf (fin s m e) ≡ Hundredths n exact false → n ≡ hundredthsOf s m e
   pub beyond : (s : Bool) (m : ℕ) (e n : ℤ) (exact : Bool) → convertedOf (fin s m e) ≡ Hundredths n exact true → hundredthsLimit < natAbs (hundredthsOf s m e)
+
+-- ════ The float of so many hundredths ════
+
+-- how far two fractions are apart
+abbrev pub apartF : Fraction → Fraction → Fraction
+apartF a b = pos (natAbs ((a -F b) .num)) over (a -F b) .den
+
+-- how far a float is from h / 100. One that is not finite is at no distance that is a number, and 0 stands here.
+unfoldable pub distance : ℤ → Float → Fraction
+distance h nan = zeroF
+distance h (inf s) = zeroF
+distance h (fin s m e) = apartF (cond s (negℤ (pos (m * up e))) (pos (m * up e)) over down e) (h over 100)
+
+-- x is a finite binary32, and every finite binary32 that does not equal it (minus zero equals zero) is farther from h / 100
+pub record Nearest (h : ℤ) (x : Float) : Type 0 where
+  pub held : T (fits binary32 x)
+  pub number : T (finite x)
+  pub farther : (y : Float) → T (fits binary32 y) → T (finite y) → T (ne y x) → distance h x <F distance h y
+
+-- "the binary32 nearest the decimal" (02, A3), by distances alone. No two are equally near, so that "ties to even" has nothing to decide
+-- among hundredths up to the limit.
+unfoldable pub NearestIs : Type 0
+NearestIs = (h : ℤ) → natAbs h ≤ nearestLimit → Nearest h (nearestFloat h)
+
+-- x is a number, and its hundredths are h
+pub record ReadAs (h : ℤ) (x : Float) : Type 0 where
+  pub s : Bool
+  pub m : ℕ
+  pub e : ℤ
+  pub is : x ≡ fin s m e
+  pub back : hundredthsOf s m e ≡ h
+
+-- "so that the reader finds the same hundredths" (02, A3)
+unfoldable pub HundredthsBack : Type 0
+HundredthsBack = (h : ℤ) → natAbs h ≤ nearestLimit → ReadAs h (nearestFloat h)

@@ -1,4 +1,4 @@
-// The run file's format: floats as hundredths, the header and the records read and written (01, "The run file").
+// The run file's format: the header and the records read and written (01, "The run file").
 pub mod header;
 pub mod lent;
 pub mod raw;

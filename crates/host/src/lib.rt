@@ -1,16 +1,21 @@
-// The unit and run files for programs in other languages: C functions in a static library.
+// The unit, run files, their listings and CSV text for programs in other languages: C functions in a static library.
 ghost use mathlib.Core.Path.{_≡_};
 ghost use lib.Ieee as Ieee;
 ghost use lib.Ieee.{binary32};
 ghost use lib.ListN.{length};
 ghost use Rattle.host.specs.Exported.{convertedNumbers};
 ghost use Rattle.host.specs.Lent.{LentPromise};
+ghost use Rattle.catalog.specs.Listing.{ListingPromise};
+ghost use Rattle.exchange.specs.Export.{exportNeeds, ExportPromise};
+ghost use Rattle.exchange.specs.Import.{importNeeds, ImportPromise};
 ghost use Rattle.float.specs.Float.{convertedOf};
 ghost use Rattle.format.specs.Header.{writeHeaderRefusal, writtenHeader};
 ghost use Rattle.format.specs.Reading.{readingOf};
 ghost use Rattle.format.specs.Refusal.{writeRecordRefusal, writtenRecord};
 ghost use Rattle.runfile.specs.Run.{RunPromise, fileTestOf};
 ghost use Rattle.unit.specs.Steps.{freshState, PlainPromise};
+use exchange::Exchanged;
+use exchange::Needed;
 use float::Converted;
 use format::Record;
 use format::reading::Reading;
@@ -117,4 +122,44 @@ pub extern "C" fn windshear_run(file: &[u8], answers: &mut [u8]) -> Outcome
     ensures { λ r. ⌜ RunPromise (now (file .entry)) (now (answers .entry)) r (now (answers .exit)) ⌝ }
 {
     runfile::run::run(file, answers)
+}
+
+// The listing of a file as the program `listing` prints it, and its length; or 0, and the buffer untouched, where it is shorter than the room.
+#[no_mangle]
+pub extern "C" fn windshear_list(file: &[u8], listing: &mut [u8]) -> usize
+    ensures { λ r. ⌜ ListingPromise (now (file .entry)) (now (listing .entry)) r (now (listing .exit)) ⌝ }
+{
+    catalog::listing(file, listing)
+}
+
+// The exact length of the run file that a CSV text becomes; or 23, 24, 11 to 20 with the first bad line's place, or 5.
+#[no_mangle]
+pub extern "C" fn windshear_import_length(text: &[u8]) -> Needed
+    ensures { λ r. ⌜ r ≡ importNeeds (now (text .entry)) ⌝ }
+{
+    exchange::import::import_length(text)
+}
+
+// The run file that a CSV text becomes; or the refusal with its place, and the buffer untouched.
+#[no_mangle]
+pub extern "C" fn windshear_import(text: &[u8], file: &mut [u8]) -> Exchanged
+    ensures { λ r. ⌜ ImportPromise (now (text .entry)) (now (file .entry)) r (now (file .exit)) ⌝ }
+{
+    exchange::import::import(text, file)
+}
+
+// The exact length of the CSV text that a run file becomes; or 1 to 6, or 11 to 20 with the first bad record's place.
+#[no_mangle]
+pub extern "C" fn windshear_export_length(file: &[u8]) -> Needed
+    ensures { λ r. ⌜ r ≡ exportNeeds (now (file .entry)) ⌝ }
+{
+    exchange::export::export_length(file)
+}
+
+// The CSV text that a run file becomes; or the refusal with its place, and the buffer untouched.
+#[no_mangle]
+pub extern "C" fn windshear_export(file: &[u8], text: &mut [u8]) -> Exchanged
+    ensures { λ r. ⌜ ExportPromise (now (file .entry)) (now (text .entry)) r (now (text .exit)) ⌝ }
+{
+    exchange::export::export(file, text)
 }

@@ -1,4 +1,4 @@
--- The cut at a bound either way, of whole numbers and of fractions (02, A1; the run file's hundredths).
+-- The cut at a bound either way, of whole numbers and of fractions (02, A1; the run file's hundredths, and a text's numbers).
 use mathlib.Core.Bool.{cond}
 use Prim.Native.Nat.{ℕ}
 use lib.IntN.{ℤ, pos, negℤ}

@@ -12,8 +12,8 @@ use lib.Seq.{take-append-seam}
 use Rattle.io.proofs.Counting.{counts}
 use Rattle.runfile.specs.Run.{testedOf}
 use Rattle.catalog.specs.Listing.{listingOf, roomOf, listedSize, listedIn}
-use Rattle.catalog.specs.Text.{written}
 use Rattle.catalog.proofs.ListingLaws.{room-good, room-refused, size-fits}
+use Rattle.text.specs.Text.{written}
 use Rattle.format.specs.Header.{mostRecords}
 use Rattle.runfile.proofs.RunLaws.{accepted-file}
 use Rattle.listing.proofs.whole_listing.Statement.{statement}

@@ -1,0 +1,13 @@
+pub mod SplitLaws
+pub mod FillLaws
+pub mod JoinLaws
+pub mod RowLaws
+pub mod ImportClaims
+pub mod ImportLaws
+pub mod WriteLaws
+pub mod AnswerLaws
+pub mod ExportLaws
+pub mod ExportClaims
+pub mod TripClaims
+pub mod NearClaims
+pub mod CsvCases

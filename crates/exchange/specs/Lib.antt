@@ -1,0 +1,6 @@
+pub mod Csv
+pub mod Find
+pub mod Import
+pub mod Held
+pub mod Export
+pub mod Claims

@@ -1,0 +1,4 @@
+pub mod Text
+pub mod Number
+pub mod Plain
+pub mod Claims
