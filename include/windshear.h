@@ -54,6 +54,8 @@ extern "C" {
 #define WINDSHEAR_MAX_RECORDS 2600
 /* The bytes that windshear_run writes for each record. A struct windshear_answer is another thing, and larger. */
 #define WINDSHEAR_ANSWER_SIZE 10
+/* The bytes of room that windshear_list asks for each line of a listing; no line is longer. */
+#define WINDSHEAR_LISTING_LINE 64
 
 /* A held shear is cut to between minus this and this as it enters the windows; in hundred-thousandths. */
 #define WINDSHEAR_ENTRY_LIMIT 34500
@@ -62,18 +64,19 @@ extern "C" {
  * every range, so the floats of a record that is accepted are never cut. */
 #define WINDSHEAR_HUNDREDTHS_LIMIT 1000000
 
-/* The refusal numbers, in the order tested: what `refusal` holds, and what a writer answers. */
+/* The refusal numbers: what `refusal` holds, and what a writer answers. They are in the order tested, but for windshear_import and
+ * windshear_export, which say their own. */
 enum windshear_refusal {
     WINDSHEAR_ACCEPTED = 0,
     WINDSHEAR_REFUSED_SHORT = 1,   /* file shorter than WINDSHEAR_HEADER_SIZE */
     WINDSHEAR_REFUSED_MARK = 2,    /* mark is not WSR */
     WINDSHEAR_REFUSED_VERSION = 3, /* version is not 1 */
     WINDSHEAR_REFUSED_ZERO = 4,    /* sixth byte is not zero */
-    WINDSHEAR_REFUSED_COUNT = 5,   /* count above WINDSHEAR_MAX_RECORDS */
+    WINDSHEAR_REFUSED_COUNT = 5,   /* count above WINDSHEAR_MAX_RECORDS, or a text of more samples */
     WINDSHEAR_REFUSED_LENGTH = 6,  /* length is not WINDSHEAR_HEADER_SIZE + WINDSHEAR_RECORD_SIZE x count */
     WINDSHEAR_REFUSED_BUFFER = 7,  /* lent buffer has the wrong length */
     WINDSHEAR_REFUSED_STATE = 8,   /* the state does not pass: see windshear_state */
-    /* the sample's or the record's field is out of range, or is a float that is not finite */
+    /* the field of the sample, of the record or of the text's line is out of range, or is a float that is not finite */
     WINDSHEAR_REFUSED_ALONG = 11,
     WINDSHEAR_REFUSED_VERTICAL = 12,
     WINDSHEAR_REFUSED_AIRSPEED = 13,
@@ -83,7 +86,9 @@ enum windshear_refusal {
     WINDSHEAR_REFUSED_CLIMB = 17,
     WINDSHEAR_REFUSED_VS1 = 18,
     WINDSHEAR_REFUSED_MODE = 19,
-    WINDSHEAR_REFUSED_DESELECT = 20
+    WINDSHEAR_REFUSED_DESELECT = 20,
+    WINDSHEAR_REFUSED_CSV_HEADER = 23, /* header line of a text is wrong */
+    WINDSHEAR_REFUSED_CSV_LINE = 24    /* a line or a field of a text is malformed */
 };
 
 /* What `alert` holds, and the first of a record's WINDSHEAR_ANSWER_SIZE answer bytes. */
@@ -230,6 +235,22 @@ struct windshear_converted {
     int32_t hundredths; /* -WINDSHEAR_HUNDREDTHS_LIMIT to WINDSHEAR_HUNDREDTHS_LIMIT */
 };
 
+/* What an import or an export is answered: 0 and 0; or a refusal, with the first bad line's or record's place from 0 for 11 to 20,
+ * and 0 for the others. A text's places begin after its header line; as 5 comes after 11 to 20, they may be above 65,535. Bytes 10
+ * to 15 are padding: compare two by their fields. */
+struct windshear_exchanged {
+    size_t place;
+    uint16_t refusal; /* of enum windshear_refusal */
+};
+
+/* What the output of an import or an export needs: its exact length in bytes, 0 and 0; or length 0, and a refusal with its place as
+ * in windshear_exchanged. Bytes 18 to 23 are padding: compare two by their fields. */
+struct windshear_needed {
+    size_t length;
+    size_t place;
+    uint16_t refusal; /* of enum windshear_refusal, but never 7 */
+};
+
 /* The state that has seen no sample: all fields 0. */
 struct windshear_state windshear_fresh(void);
 
@@ -274,6 +295,55 @@ uint16_t windshear_write_record(struct windshear_record record, uint8_t *buffer,
 /* The hundredths that the float with these 32 bits becomes, whether it was exact and whether it was cut. A float's bits are what
  * memcpy copies from it into a uint32_t; a record's floats become its sample's speeds in the same way. */
 struct windshear_converted windshear_hundredths(uint32_t bits);
+
+/* A CSV text (RFC 4180) written as a run file. The text is one header line with the ten names below, then a line for each sample, its
+ * ten fields in the same order; each line ends in CRLF, the last one too. The header line alone is a run of count 0. The four speeds
+ * are in knots, a digit or more, a point and exactly two decimals; the rest are whole, in the units of windshear_sample. Each of the
+ * ten may have a sign, plus or minus, and any number of digits and of leading zeros. A field may be quoted whole, a name too. Zero is
+ * written as plus zero, and every other float is the one nearest the decimal, ties to even: windshear_read_record finds the same
+ * hundredths.
+ *
+ * Refused, each over the whole text before the next, the buffer is untouched:
+ *    23: the header line is wrong, by a name, its quoting, the number of names or its end;
+ *    24: a later line or field is malformed: a bare LF or CR, a last line without its CRLF, a blank line, a wrong number of fields, a
+ *        space beside a number, too few or too many decimals, a quote in a field not quoted whole, anything after a closing quote;
+ *    11 to 20: a field is out of range, however many digits it has: the first bad line's place, and the first number that fits it;
+ *    5: there are more than WINDSHEAR_MAX_RECORDS samples;
+ *    7: file_length is not WINDSHEAR_HEADER_SIZE + WINDSHEAR_RECORD_SIZE x samples.
+ *
+ * windshear_import_length answers that length; or it refuses the text by the same numbers but 7. Its length is then 0, and an import
+ * into a buffer of length 0 is refused likewise, as 7 comes last. A text that is accepted has at most WINDSHEAR_MAX_RECORDS samples,
+ * so this buffer is enough for every text:
+ *
+ *    static const char text[] =
+ *        "along wind,vertical wind,true airspeed,height above ground,pitch,stall-warning pitch,climb,stall speed Vs1,mode,deselect\r\n"
+ *        "20.10,-29.40,140.00,400,5000,20000,-700,100.00,1,0\r\n";
+ *    static uint8_t file[WINDSHEAR_HEADER_SIZE + WINDSHEAR_RECORD_SIZE * WINDSHEAR_MAX_RECORDS];
+ *    struct windshear_needed needed = windshear_import_length((const uint8_t *)text, sizeof text - 1);
+ *    struct windshear_exchanged imported = windshear_import((const uint8_t *)text, sizeof text - 1, file, needed.length);
+ *
+ * The NUL at the end of a C string is no part of the text. For length 0 pass any pointer that is not NULL; a text of length 0 is
+ * refused by 23. */
+struct windshear_needed windshear_import_length(const uint8_t *text, size_t text_length);
+struct windshear_exchanged windshear_import(const uint8_t *text, size_t text_length, uint8_t *file, size_t file_length);
+
+/* A run file written as such a text, with no NUL after it: the speeds by their hundredths, also where a float was rounded, no field
+ * quoted, and no number with a plus, a needless leading zero or a minus before zero. Refused by 1 to 6, then by 11 to 20 with the first
+ * bad record's place, then by 7 where text_length is not the text's exact length, the buffer is untouched. windshear_export_length
+ * answers that length; or it refuses the file by the same numbers but 7, and its length is 0.
+ *
+ * Exporting what was imported gives the same text where no field was quoted and no number had a needless leading zero, a plus, or a
+ * minus before zero. Importing what was exported gives a run with the same samples; where the floats were those nearest their
+ * hundredths and no zero was minus zero, it gives the same bytes. For length 0 pass any pointer that is not NULL; a file of length 0
+ * is refused by 1. */
+struct windshear_needed windshear_export_length(const uint8_t *file, size_t file_length);
+struct windshear_exchanged windshear_export(const uint8_t *file, size_t file_length, uint8_t *text, size_t text_length);
+
+/* The listing of a run file, as the program `listing` prints it, at the start of the lent buffer, with no NUL after it; its length is
+ * returned, and the rest of the buffer is untouched. A file that windshear_test_file refuses is listed as its line `refused N at P`.
+ * The buffer must have WINDSHEAR_LISTING_LINE x (count + 2) bytes, by that test's count, and WINDSHEAR_LISTING_LINE for a refused file,
+ * or more: a shorter one is untouched and 0 is returned. For length 0 pass any pointer that is not NULL. */
+size_t windshear_list(const uint8_t *file, size_t file_length, uint8_t *listing, size_t listing_length);
 
 #ifdef __cplusplus
 }

@@ -1,19 +1,21 @@
 /* The C interface: the layout of every struct against the library, what refusals leave behind, what enters the windows, runs against lone samples,
- * records read back, and which floats are exact, rounded or cut. */
+ * records read back, which floats are exact, rounded or cut, and texts imported, exported and listed. */
 #include <stdio.h>
+#include <stdlib.h>
 #include <string.h>
 #include "windshear.h"
 
 #define AT(type, field, offset) _Static_assert(offsetof(struct windshear_##type, field) == offset, #type "." #field)
 #define SIZE(type, size) _Static_assert(sizeof(struct windshear_##type) == size, #type)
 SIZE(sample, 40); SIZE(sums, 48); SIZE(core, 72); SIZE(state, 872); SIZE(answer, 16); SIZE(offered, 888); SIZE(record, 24); SIZE(outcome, 4);
-SIZE(converted, 12); SIZE(file_test, 6); SIZE(reading, 72);
+SIZE(converted, 12); SIZE(file_test, 6); SIZE(reading, 72); SIZE(exchanged, 16); SIZE(needed, 24);
 AT(sums, s180, 8); AT(sums, s160, 16); AT(sums, s140, 24); AT(sums, s120, 32); AT(sums, s100, 40);
 AT(core, sums, 0); AT(core, along, 48); AT(core, mode, 52); AT(core, command, 56); AT(core, seen, 60); AT(core, red, 62); AT(core, amber, 64);
 AT(core, voice, 66); AT(core, guidance, 68); AT(core, place, 70); AT(state, held, 0); AT(state, core, 800); AT(answer, guidance, 6); AT(answer, shear, 12);
 AT(offered, state, 16); AT(record, height, 12); AT(record, vs1, 20); AT(record, deselect, 23); AT(outcome, place, 2); AT(file_test, count, 4);
 AT(converted, finite, 0); AT(converted, exact, 2); AT(converted, cut, 4); AT(converted, hundredths, 8);
 AT(reading, found, 0); AT(reading, refusal, 2); AT(reading, exact, 4); AT(reading, record, 8); AT(reading, sample, 32);
+AT(exchanged, place, 0); AT(exchanged, refusal, 8); AT(needed, length, 0); AT(needed, place, 8); AT(needed, refusal, 16);
 _Static_assert(_Alignof(struct windshear_state) == 8 && _Alignof(struct windshear_offered) == 8 && _Alignof(struct windshear_reading) == 4, "alignment");
 /* a state has no padding: its size is that of its fields */
 _Static_assert(sizeof(struct windshear_state) == 200 * 4 + 6 * 8 + 3 * 4 + 6 * 2, "padding");
@@ -82,10 +84,18 @@ static void all_lit(void) {
     memset(&lit, 0, sizeof lit);
 }
 
-/* Each field of a sample, one out of range at each end: its own number, so its own place. */
-static void sample_fields(void) {
+/* A sample with field i at an end of its range, or one beyond it. */
+static struct windshear_sample at_end(int i, int end, int beyond) {
     static const int32_t range[10][2] = {{-20000, 20000}, {-10000, 10000}, {6000, 60000}, {-20, 5000}, {-30000, 30000},
                                          {-10000, 30000}, {-10000, 10000}, {5000, 30000}, {0, 1}, {0, 1}};
+    struct windshear_sample s = calm;
+    int32_t value = range[i][end] + (beyond ? (end ? 1 : -1) : 0);
+    memcpy((char *)&s + 4 * i, &value, 4);
+    return s;
+}
+
+/* Each field of a sample, one out of range at each end: its own number, so its own place. */
+static void sample_fields(void) {
     static const int number[10] = {WINDSHEAR_REFUSED_ALONG, WINDSHEAR_REFUSED_VERTICAL, WINDSHEAR_REFUSED_AIRSPEED, WINDSHEAR_REFUSED_HEIGHT,
                                    WINDSHEAR_REFUSED_PITCH, WINDSHEAR_REFUSED_STALL, WINDSHEAR_REFUSED_CLIMB, WINDSHEAR_REFUSED_VS1,
                                    WINDSHEAR_REFUSED_MODE, WINDSHEAR_REFUSED_DESELECT};
@@ -93,10 +103,7 @@ static void sample_fields(void) {
         for (int end = 0; end < 2; end++)
             for (int beyond = 0; beyond < 2; beyond++) {
                 struct windshear_state state = windshear_fresh(), before = state;
-                struct windshear_sample s = calm;
-                int32_t value = range[i][end] + (beyond ? (end ? 1 : -1) : 0);
-                memcpy((char *)&s + 4 * i, &value, 4);
-                struct windshear_answer a = windshear_offer_lent(&state, s);
+                struct windshear_answer a = windshear_offer_lent(&state, at_end(i, end, beyond));
                 check(a.refusal == (beyond ? number[i] : WINDSHEAR_ACCEPTED) && (!beyond || a.refusal == 11 + i), "a sample's number");
                 check(!beyond || same_state(&state, &before), "a refused sample leaves the lent state");
             }
@@ -263,17 +270,24 @@ static int shows(const uint8_t *ten, struct windshear_answer a) {
     return ten[0] == a.alert && ten[1] == a.voice && command == a.command && (int32_t)shear == a.shear && ten[8] == a.guidance && ten[9] == 0;
 }
 
-/* A run file of a list that lights both lamps: the ten bytes are the lone answers, in both forms. */
-static void run_lit(void) {
-    enum { COUNT = 600 };
-    static uint8_t file[START(COUNT)], answers[COUNT * WINDSHEAR_ANSWER_SIZE];
-    check(windshear_write_header(COUNT, file, WINDSHEAR_HEADER_SIZE) == WINDSHEAR_ACCEPTED, "the header is written");
-    for (int i = 0; i < COUNT; i++) {
-        const struct windshear_sample s = exposed(i);
+/* Writes the run file of some samples, the floats nearest their hundredths: a quotient of whole numbers is rounded once. */
+static void write_file(uint8_t *file, const struct windshear_sample *samples, size_t count) {
+    check(windshear_write_header((uint32_t)count, file, WINDSHEAR_HEADER_SIZE) == WINDSHEAR_ACCEPTED, "the header is written");
+    for (size_t i = 0; i < count; i++) {
+        const struct windshear_sample s = samples[i];
         const struct windshear_record r = {(float)s.along / 100, (float)s.vertical / 100, (float)s.airspeed / 100, (int16_t)s.height, (int16_t)s.pitch,
                                            (int16_t)s.stall, (int16_t)s.climb, (uint16_t)s.vs1, (uint8_t)s.mode, (uint8_t)s.deselect};
         check(windshear_write_record(r, file + START(i), WINDSHEAR_RECORD_SIZE) == WINDSHEAR_ACCEPTED, "the record is written");
     }
+}
+
+/* A run file of a list that lights both lamps: the ten bytes are the lone answers, in both forms. */
+static void run_lit(void) {
+    enum { COUNT = 600 };
+    static struct windshear_sample samples[COUNT];
+    static uint8_t file[START(COUNT)], answers[COUNT * WINDSHEAR_ANSWER_SIZE];
+    for (int i = 0; i < COUNT; i++) samples[i] = exposed(i);
+    write_file(file, samples, COUNT);
     const struct windshear_outcome outcome = windshear_run(file, sizeof file, answers, sizeof answers);
     check(outcome.refusal == WINDSHEAR_ACCEPTED && outcome.place == 0, "the run is accepted");
     struct windshear_state lent = windshear_fresh(), plain = lent;
@@ -343,6 +357,43 @@ static void three_records(void) {
     }
 }
 
+/* What is lent for a run file, a text or a listing, with a margin behind it; all of it is set before a call. */
+enum { MARGIN = 32 };
+static uint8_t lent[WINDSHEAR_LISTING_LINE * (WINDSHEAR_MAX_RECORDS + 2) + 1 + MARGIN];
+
+/* A buffer of this length. */
+static uint8_t *lend(size_t length) {
+    if (length > sizeof lent - MARGIN) abort();
+    memset(lent, 0xa5, length + MARGIN);
+    return lent;
+}
+
+/* Whether a lent buffer of this length has these bytes at its start, and the rest and the margin are as they were. */
+static int holds(size_t length, const void *bytes, size_t count) {
+    for (size_t i = count; i < length + MARGIN; i++)
+        if (lent[i] != 0xa5) return 0;
+    return memcmp(lent, bytes, count) == 0;
+}
+
+/* An import, or an export, into a buffer of this length is answered so; refused, it leaves the buffer. */
+static int answered(struct windshear_exchanged e, int refusal, size_t place, size_t length, const void *bytes) {
+    return e.refusal == refusal && e.place == place && holds(length, bytes, refusal ? 0 : length);
+}
+
+/* A file that is neither exported, whatever the buffer's length, nor listed but by one line. */
+static void refused_file(const uint8_t *file, size_t file_length, int refusal, size_t place) {
+    const struct windshear_needed needed = windshear_export_length(file, file_length);
+    check(needed.refusal == refusal && needed.place == place && needed.length == 0, "a refused file's text has no length");
+    for (size_t length = 0; length < 200; length++)
+        check(answered(windshear_export(file, file_length, lend(length), length), refusal, place, length, ""), "a file is refused before its buffer, which it leaves");
+    char line[WINDSHEAR_LISTING_LINE];
+    const size_t size = (size_t)snprintf(line, sizeof line, "refused %d at %d\n", refusal, (int)place);
+    for (size_t length = 0; length < 200; length++) {
+        const size_t want = length < WINDSHEAR_LISTING_LINE ? 0 : size;
+        check(windshear_list(file, file_length, lend(length), length) == want && holds(length, line, want), "and its line wants its room");
+    }
+}
+
 /* The first six numbers, by a file's own test and at every place alike. */
 static void headers(void) {
     uint8_t good[WINDSHEAR_HEADER_SIZE], file[sizeof good];
@@ -357,6 +408,7 @@ static void headers(void) {
         size_t length = sizeof file - (number == WINDSHEAR_REFUSED_SHORT);
         struct windshear_file_test test = windshear_test_file(file, length);
         check(test.refusal == number && test.place == 0 && test.count == 0, "a header's number");
+        if (number) refused_file(file, length, number, 0);
         for (size_t place = 0; place < 3; place++) check(unread(windshear_read_record(file, length, place), number), "the same at every place");
     }
 }
@@ -381,7 +433,14 @@ static void lengths_of_zero(void) {
           "no header is written");
     const struct windshear_record record = {0, 0, 140, 400, 5000, 20000, -700, 10000, 1, 0};
     check(windshear_write_record(record, &byte, 0) == WINDSHEAR_REFUSED_BUFFER, "no record is written");
-    check(byte == 0xa5, "the byte is left");
+    struct windshear_needed needed = windshear_import_length(&byte, 0);
+    struct windshear_exchanged exchanged = windshear_import(&byte, 0, &none, 0);
+    check(needed.refusal == WINDSHEAR_REFUSED_CSV_HEADER && needed.length == 0 && exchanged.refusal == WINDSHEAR_REFUSED_CSV_HEADER, "an empty text is refused by 23");
+    needed = windshear_export_length(&byte, 0);
+    exchanged = windshear_export(&byte, 0, &none, 0);
+    check(needed.refusal == WINDSHEAR_REFUSED_SHORT && needed.length == 0 && exchanged.refusal == WINDSHEAR_REFUSED_SHORT, "an empty file is not exported");
+    check(windshear_export(file, sizeof file, &byte, 0).refusal == WINDSHEAR_REFUSED_BUFFER && windshear_list(file, sizeof file, &byte, 0) == 0, "nor a good one into nothing");
+    check(byte == 0xa5 && none == 0, "the bytes are left");
 }
 
 static void writers(void) {
@@ -493,6 +552,269 @@ static void exact_records(void) {
     }
 }
 
+/* The text that is imported, or that is wanted of an export. */
+static uint8_t text[4 << 20];
+static size_t text_length;
+
+static void add(const char *more) {
+    const size_t length = strlen(more);
+    memcpy(text + text_length, more, length);
+    text_length += length;
+}
+
+/* The text's header line and no more. */
+static void begin(void) {
+    text_length = 0;
+    add("along wind,vertical wind,true airspeed,height above ground,pitch,stall-warning pitch,climb,stall speed Vs1,mode,deselect\r\n");
+}
+
+/* Adds a sample's line, the speeds in knots; one field of it, or none where it is 10, by a format for its number. */
+static void add_line(struct windshear_sample s, int field, const char *format) {
+    int32_t fields[10];
+    memcpy(fields, &s, sizeof fields);
+    for (int i = 0; i < 10; i++) {
+        char digits[32];
+        const int size = abs((int)fields[i]);
+        if (i < 3 || i == 7) snprintf(digits, sizeof digits, "%s%d.%02d", fields[i] < 0 ? "-" : "", size / 100, size % 100);
+        else snprintf(digits, sizeof digits, "%d", (int)fields[i]);
+        text_length += (size_t)sprintf((char *)text + text_length, i == field ? format : "%s", digits);
+        add(i < 9 ? "," : "\r\n");
+    }
+}
+
+/* The text of some samples. */
+static void write_text(const struct windshear_sample *samples, size_t count) {
+    begin();
+    for (size_t i = 0; i < count; i++) add_line(samples[i], 10, "%s");
+}
+
+/* The text is the run of these samples: its file needs its length, no more and no less, and has their bytes. */
+static void imports(const struct windshear_sample *samples, size_t count) {
+    static uint8_t file[START(WINDSHEAR_MAX_RECORDS)];
+    const size_t needs = START(count);
+    write_file(file, samples, count);
+    const struct windshear_needed needed = windshear_import_length(text, text_length);
+    check(needed.refusal == WINDSHEAR_ACCEPTED && needed.place == 0 && needed.length == needs, "a text's file has its length");
+    for (size_t length = needs - 1; length <= needs + 1; length++) {
+        const int refusal = length == needs ? WINDSHEAR_ACCEPTED : WINDSHEAR_REFUSED_BUFFER;
+        check(answered(windshear_import(text, text_length, lend(length), length), refusal, 0, length, file), "a text is imported, or refused by 7");
+    }
+}
+
+/* The text is refused, whatever the buffer's length. */
+static void refused_text(int refusal, size_t place, const char *what) {
+    static const size_t lengths[] = {0, START(0), START(1), START(2), START(3), START(WINDSHEAR_MAX_RECORDS), START(WINDSHEAR_MAX_RECORDS + 1)};
+    const struct windshear_needed needed = windshear_import_length(text, text_length);
+    check(needed.refusal == refusal && needed.place == place && needed.length == 0, what);
+    for (size_t k = 0; k < sizeof lengths / sizeof *lengths; k++)
+        check(answered(windshear_import(text, text_length, lend(lengths[k]), lengths[k]), refusal, place, lengths[k], ""), "and its buffer is left");
+}
+
+/* The file's text is the one that stands: it needs its length, no more and no less. */
+static void exports(const uint8_t *file, size_t file_length) {
+    const struct windshear_needed needed = windshear_export_length(file, file_length);
+    check(needed.refusal == WINDSHEAR_ACCEPTED && needed.place == 0 && needed.length == text_length, "a file's text has its length");
+    for (size_t length = text_length - 1; length <= text_length + 1; length++) {
+        const int refusal = length == text_length ? WINDSHEAR_ACCEPTED : WINDSHEAR_REFUSED_BUFFER;
+        check(answered(windshear_export(file, file_length, lend(length), length), refusal, 0, length, text), "a file is exported, or refused by 7");
+    }
+}
+
+/* The text and the lines of the header's comment. */
+static void shown_import(void) {
+#include <imported.inc>
+    check(needed.refusal == WINDSHEAR_ACCEPTED && needed.place == 0 && needed.length == START(1), "the header's text has one sample");
+    check(imported.refusal == WINDSHEAR_ACCEPTED && imported.place == 0, "and is imported");
+    const struct windshear_reading r = windshear_read_record(file, needed.length, 0);
+    check(r.found == 1 && r.record.along == 20.10f && r.record.vertical == -29.40f && r.record.airspeed == 140 && r.sample.along == 2010 && r.sample.vertical == -2940
+          && r.sample.airspeed == 14000 && r.sample.vs1 == 10000 && r.sample.mode == 1, "its floats are the nearest");
+    check(file[START(1)] == 0, "and no more is written");
+    text_length = 0;
+    add(text);
+    exports(file, needed.length);
+}
+
+/* Lines that are read as the sample's, and lines that are malformed, by each field; and header lines. */
+static void fields_of_texts(void) {
+    /* none of its numbers is negative, so that each may have a sign or zeros in front */
+    struct windshear_sample s = calm;
+    s.climb = 700;
+    static char zeros[5000 + sizeof "%s"], nines[sizeof zeros];
+    memset(zeros, '0', 5000);
+    memset(nines, '9', 5000);
+    memcpy(zeros + 5000, "%s", sizeof "%s");
+    memcpy(nines + 5000, "%s", sizeof "%s");
+    const char *const good[] = {"%s", "\"%s\"", "+%s", "\"+%s\"", "0%s", "+00%s", "\"00%s\"", zeros};
+    static const char *const bad[] = {"", "x", "-", "+-%s", "-+%s", "--%s", " %s", "%s ", "+ %s", "%sx", "x%s", "\"%s", "%s\"", "\"%s\" ", " \"%s\"", "\"%s\"0", "0\"%s\"",
+                                      "\"\"%s", "\"%s\"\"", "\"\"\"%s\"", "\"%s\"\"\"", "\"\"", "\" %s\"", "\"%s,\"", "\"%s\r\n\"", "%s,", ",%s", "%s,0", "%s.", "%s.0",
+                                      "%s0.00", "%se0", "%s\r", "%s\n", "%s\r\n", "\r\n%s", "%s\t", "0x%s", "%s\xa0", "%s;", "'%s'"};
+    static const char *const bad_speed[] = {"140", "140.", "140.0", ".00", "-.00", "%s0", "140,00", "140.-0", "140.+00", "140. 00", "140..00", "140.0.0", "1.400e2"};
+    static const char *const bad_whole[] = {"1.00", "1.0", "1.", ".1", "1e0"};
+    for (int i = 0; i < 10; i++) {
+        const int speed = i < 3 || i == 7;
+        const char *const *const others = speed ? bad_speed : bad_whole;
+        const size_t count = speed ? sizeof bad_speed / sizeof *bad_speed : sizeof bad_whole / sizeof *bad_whole;
+        for (size_t k = 0; k < sizeof good / sizeof *good; k++) {
+            begin();
+            add_line(s, i, good[k]);
+            imports(&s, 1);
+        }
+        for (size_t k = 0; k < sizeof bad / sizeof *bad + count; k++) {
+            begin();
+            add_line(calm, 10, "%s");
+            /* out of range as well, at place 1: 24 is tested first */
+            add_line(at_end(9 - i, 1, 1), 10, "%s");
+            add_line(s, i, k < count ? others[k] : bad[k - count]);
+            refused_text(WINDSHEAR_REFUSED_CSV_LINE, 0, "a field is malformed");
+        }
+        begin();
+        add_line(calm, 10, "%s");
+        add_line(s, i, nines);
+        refused_text(WINDSHEAR_REFUSED_ALONG + i, 1, "a number of five thousand digits is out of range");
+    }
+    static const char *const lines[] = {"\r\n", "\n", "\r", " \r\n", ",\r\n", ",,,,,,,,,\r\n", "0.00,0.00,140.00,0,0,0,0,100.00,0\r\n", "0.00,0.00,140.00,0,0,0,0,100.00,0,0\n",
+                                        "0.00,0.00,140.00,0,0,0,0,100.00,0,0\r", "0.00,0.00,140.00,0,0,0,0,100.00,0,0", "0.00,0.00,140.00,0,0,0,0,100.00,0,0\n\r"};
+    for (size_t k = 0; k < sizeof lines / sizeof *lines; k++) {
+        begin();
+        add_line(calm, 10, "%s");
+        add(lines[k]);
+        refused_text(WINDSHEAR_REFUSED_CSV_LINE, 0, "a line is malformed");
+    }
+    /* the header line damaged at each byte, or cut off there; then with all its names quoted */
+    begin();
+    const size_t length = text_length;
+    for (size_t k = 0; k < length; k++) {
+        begin();
+        add_line(calm, 0, "x");
+        text[k] ^= 0x20;
+        refused_text(WINDSHEAR_REFUSED_CSV_HEADER, 0, "a header line with another byte");
+        begin();
+        text_length = k;
+        refused_text(WINDSHEAR_REFUSED_CSV_HEADER, 0, "a header line that is cut off");
+    }
+    text_length = 0;
+    add("\"along wind\",\"vertical wind\",\"true airspeed\",\"height above ground\",\"pitch\",\"stall-warning pitch\",\"climb\",\"stall speed Vs1\",\"mode\",\"deselect\"\r\n");
+    imports(NULL, 0);
+    add_line(calm, 10, "%s");
+    imports(&calm, 1);
+}
+
+/* Samples to text and back, the ends of each range, and how many there may be. */
+static void texts(void) {
+    enum { COUNT = WINDSHEAR_MAX_RECORDS, LONG = 70000 };
+    static struct windshear_sample samples[COUNT + 1];
+    static uint8_t file[START(COUNT)];
+    for (int i = 0; i <= COUNT; i++) {
+        samples[i] = exposed(i);
+        samples[i].along += i * i % 1999 - i % 701;
+    }
+    static const size_t counts[] = {0, 1, 2, 599, COUNT};
+    for (size_t k = 0; k < sizeof counts / sizeof *counts; k++) {
+        write_text(samples, counts[k]);
+        imports(samples, counts[k]);
+        write_file(file, samples, counts[k]);
+        exports(file, START(counts[k]));
+    }
+    /* one more is refused by 5, after the lines; and a place may be above 16 bits */
+    write_text(samples, COUNT + 1);
+    refused_text(WINDSHEAR_REFUSED_COUNT, 0, "a sample too many");
+    add_line(at_end(9, 1, 1), 10, "%s");
+    refused_text(WINDSHEAR_REFUSED_DESELECT, COUNT + 1, "11 to 20 come before 5");
+    begin();
+    for (int i = 0; i < LONG; i++) add_line(calm, 10, "%s");
+    refused_text(WINDSHEAR_REFUSED_COUNT, 0, "far too many samples");
+    add_line(at_end(3, 0, 1), 10, "%s");
+    add_line(at_end(0, 0, 1), 10, "%s");
+    refused_text(WINDSHEAR_REFUSED_HEIGHT, LONG, "a place above 65,535");
+    add("\n");
+    refused_text(WINDSHEAR_REFUSED_CSV_LINE, 0, "24 comes before 11 to 20");
+    text[0] = 'A';
+    refused_text(WINDSHEAR_REFUSED_CSV_HEADER, 0, "and 23 before it");
+    for (int i = 0; i < 10; i++)
+        for (int end = 0; end < 2; end++) {
+            const struct windshear_sample three[3] = {calm, at_end(i, end, 0), calm};
+            write_text(three, 3);
+            imports(three, 3);
+            write_file(file, three, 3);
+            exports(file, START(3));
+            begin();
+            add_line(calm, 10, "%s");
+            struct windshear_sample beyond = at_end(i, end, 1);
+            if (i < 9) beyond.deselect = 2;
+            add_line(beyond, 10, "%s");
+            add_line(at_end(0, 0, 1), 10, "%s");
+            refused_text(WINDSHEAR_REFUSED_ALONG + i, 1, "the first bad line's place, and its first number");
+        }
+    /* a minus before zero is read as plus zero */
+    struct windshear_sample s = calm;
+    s.pitch = s.climb = s.height = s.stall = s.mode = 0;
+    static const int zero[] = {0, 1, 3, 4, 5, 6, 8, 9};
+    for (size_t k = 0; k < sizeof zero / sizeof *zero; k++) {
+        begin();
+        add_line(s, zero[k], "-%s");
+        imports(&s, 1);
+    }
+}
+
+/* Files whose floats were rounded are exported by their hundredths, and zero without a minus; those refused are left. */
+static void exported_files(void) {
+    static const struct { float knots; int32_t hundredths; } of[] = {{0.125f, 13}, {-0.125f, -13}, {-0.0f, 0}, {0x1p-149f, 0}, {-0.004f, 0}, {-0.996f, -100},
+                                                                     {0.09f, 9}, {-0.5f, -50}, {99.996f, 10000}, {-100.004f, -10000}};
+    uint8_t file[START(2)];
+    check(windshear_write_header(2, file, WINDSHEAR_HEADER_SIZE) == WINDSHEAR_ACCEPTED, "the header is written");
+    for (size_t k = 0; k < sizeof of / sizeof *of; k++) {
+        struct windshear_sample s = calm;
+        s.along = s.vertical = of[k].hundredths;
+        const struct windshear_record r = {of[k].knots, of[k].knots, 140, 400, 5000, 20000, -700, 10000, 1, 0};
+        begin();
+        for (int i = 0; i < 2; i++) {
+            check(windshear_write_record(r, file + START(i), WINDSHEAR_RECORD_SIZE) == WINDSHEAR_ACCEPTED, "the record is written");
+            add_line(s, 10, "%s");
+        }
+        exports(file, sizeof file);
+    }
+    file[START(2) - 1] = 2;
+    refused_file(file, sizeof file, WINDSHEAR_REFUSED_DESELECT, 1);
+    file[START(2) - 2] = 2;
+    refused_file(file, sizeof file, WINDSHEAR_REFUSED_MODE, 1);
+    memcpy(file + START(0), &(float){__builtin_nanf("")}, sizeof(float));
+    refused_file(file, sizeof file, WINDSHEAR_REFUSED_ALONG, 0);
+    refused_file(file, sizeof file - 1, WINDSHEAR_REFUSED_LENGTH, 0);
+}
+
+/* The listing of a list that lights both lamps, by the lone answers; and of no records. */
+static void listed(void) {
+    enum { COUNT = 600 };
+    static struct windshear_sample samples[COUNT];
+    static uint8_t file[START(COUNT)];
+    static const char *const alert[] = {"none", "amber", "red"};
+    for (int count = 0; count <= COUNT; count += COUNT) {
+        struct windshear_state state = windshear_fresh();
+        int on[3] = {0}, last = WINDSHEAR_ALERT_NONE;
+        text_length = 0;
+        add("sample shear alert voice command float\n");
+        for (int i = 0; i < count; i++) {
+            samples[i] = exposed(i);
+            const struct windshear_answer a = windshear_offer_lent(&state, samples[i]);
+            char command[16] = "off";
+            if (a.guidance) snprintf(command, sizeof command, "%d", (int)a.command);
+            /* of its three floats, the vertical wind of 29.4 kt is rounded, and the others are whole */
+            text_length += (size_t)sprintf((char *)text + text_length, "%d %d %s %d %s rounded\n", i, (int)a.shear, alert[a.alert], a.voice, command);
+            on[a.alert] += a.alert != last;
+            last = a.alert;
+            tally(a);
+        }
+        text_length += (size_t)sprintf((char *)text + text_length, "red %d amber %d\n", on[WINDSHEAR_ALERT_RED], on[WINDSHEAR_ALERT_AMBER]);
+        write_file(file, samples, (size_t)count);
+        const size_t room = WINDSHEAR_LISTING_LINE * (size_t)(count + 2);
+        for (size_t length = room - 1; length <= room + 1; length++) {
+            const size_t want = length < room ? 0 : text_length;
+            check(windshear_list(file, START(count), lend(length), length) == want && holds(length, text, want), "a listing, where there is room");
+        }
+    }
+    all_lit();
+}
+
 int main(void) {
     sample_fields();
     state_fields();
@@ -507,6 +829,11 @@ int main(void) {
     writers();
     converted();
     exact_records();
+    shown_import();
+    fields_of_texts();
+    texts();
+    exported_files();
+    listed();
     printf("answers in lists: red %d, amber %d, with voice %d, with guidance %d, beyond the cut %d\n", in_all.red, in_all.amber, in_all.voice, in_all.guidance,
            in_all.gust);
     printf("floats: exact %d, rounded %d, cut %d\n", seen.exact, seen.rounded, seen.cut);

@@ -1,11 +1,12 @@
 /* The header as C++: 01's three records lent, in the plain form and as a run file that is read back, a ring turned, both lamps lit by an exposure,
- * lengths of 0, and floats and records that are exact or rounded. */
+ * lengths of 0, floats and records that are exact or rounded, and a text imported, exported and listed. */
 #include "windshear.h"
 #include <algorithm>
 #include <cstddef>
 #include <cstdint>
 #include <cstdio>
 #include <cstring>
+#include <string>
 #include <vector>
 
 static_assert(sizeof(windshear_sums) == 48 && sizeof(windshear_core) == 72 && sizeof(windshear_state) == 872 && sizeof(windshear_offered) == 888, "sizes");
@@ -15,6 +16,8 @@ static_assert(sizeof(windshear_converted) == 12 && offsetof(windshear_converted,
               && offsetof(windshear_converted, hundredths) == 8, "a float's conversion");
 static_assert(sizeof(windshear_reading) == 72 && offsetof(windshear_reading, exact) == 4 && offsetof(windshear_reading, record) == 8
               && offsetof(windshear_reading, sample) == 32, "a reading");
+static_assert(sizeof(windshear_exchanged) == 16 && offsetof(windshear_exchanged, refusal) == 8, "an exchange");
+static_assert(sizeof(windshear_needed) == 24 && offsetof(windshear_needed, place) == 8 && offsetof(windshear_needed, refusal) == 16, "what it needs");
 static_assert(alignof(windshear_state) == 8 && alignof(windshear_offered) == 8, "alignment");
 
 static int checks, wrong;
@@ -124,6 +127,78 @@ static void lengths_of_zero() {
     check(outcome.refusal == WINDSHEAR_REFUSED_SHORT && outcome.place == 0 && answers[0] == 0xa5, "an empty file is refused by 1");
     check(windshear_test_file(file.data(), 0).refusal == WINDSHEAR_REFUSED_SHORT && unread(windshear_read_record(file.data(), 0, 0), WINDSHEAR_REFUSED_SHORT),
           "and so by its own test, and at a place");
+    check(windshear_import(file.data(), 0, answers.data(), answers.size() - 1).refusal == WINDSHEAR_REFUSED_CSV_HEADER && answers[0] == 0xa5, "an empty text");
+    check(windshear_export(file.data(), 0, answers.data(), answers.size() - 1).refusal == WINDSHEAR_REFUSED_SHORT && answers[0] == 0xa5, "an empty file's text");
+    check(windshear_list(file.data(), 0, answers.data(), answers.size() - 1) == 0 && answers[0] == 0xa5, "and its listing");
+}
+
+using needs = windshear_needed(const uint8_t *, std::size_t);
+using exchanges = windshear_exchanged(const uint8_t *, std::size_t, uint8_t *, std::size_t);
+
+/* An import, or an export, gives this output, where the buffer has its length. */
+static void gives(const std::vector<uint8_t> &input, needs length, exchanges exchange, const std::vector<uint8_t> &output) {
+    const windshear_needed needed = length(input.data(), input.size());
+    check(needed.refusal == WINDSHEAR_ACCEPTED && needed.place == 0 && needed.length == output.size(), "the output's length");
+    for (const int off : {-1, 0, 1}) {
+        const std::vector<uint8_t> before(output.size() + off, 0xa5);
+        std::vector<uint8_t> lent = before;
+        const windshear_exchanged e = exchange(input.data(), input.size(), lent.data(), lent.size());
+        check(e.refusal == (off ? WINDSHEAR_REFUSED_BUFFER : WINDSHEAR_ACCEPTED) && e.place == 0 && lent == (off ? before : output), "the output, or 7");
+    }
+}
+
+/* An import, or an export, is refused, and the buffer left, of whatever length. */
+static void refuses(const std::vector<uint8_t> &input, needs length, exchanges exchange, int refusal, std::size_t place) {
+    const windshear_needed needed = length(input.data(), input.size());
+    check(needed.refusal == refusal && needed.place == place && needed.length == 0, "what is refused has no length");
+    for (const std::size_t size : {std::size_t{1}, start(0), start(1), start(2), input.size()}) {
+        const std::vector<uint8_t> before(size, 0xa5);
+        std::vector<uint8_t> lent = before;
+        const windshear_exchanged e = exchange(input.data(), input.size(), lent.data(), lent.size());
+        check(e.refusal == refusal && e.place == place && lent == before, "what is refused leaves the buffer");
+    }
+}
+
+/* The listing of a file, where there is room for so many lines. */
+static void lists(const std::vector<uint8_t> &input, std::size_t lines, const std::string &listing) {
+    const std::size_t room = lines * WINDSHEAR_LISTING_LINE;
+    std::vector<uint8_t> lent(room, 0xa5), want = lent;
+    check(windshear_list(input.data(), input.size(), lent.data(), room - 1) == 0 && lent == want, "no listing without its room");
+    std::copy(listing.begin(), listing.end(), want.begin());
+    check(windshear_list(input.data(), input.size(), lent.data(), room) == listing.size() && lent == want, "a listing");
+}
+
+/* The text of the header's comment, by its lines; then both ways, with a second line, and refused. */
+static void texts() {
+#include <imported.inc>
+    check(needed.refusal == WINDSHEAR_ACCEPTED && needed.place == 0 && needed.length == start(1), "the header's text has one sample");
+    check(imported.refusal == WINDSHEAR_ACCEPTED && imported.place == 0, "and is imported");
+    const windshear_record record{20.10f, -29.40f, 140, 400, 5000, 20000, -700, 10000, 1, 0};
+    check(same_fields(windshear_read_record(file, needed.length, 0).record, record), "its floats are the nearest");
+    const auto bytes = [](const std::string &of) { return std::vector<uint8_t>(of.begin(), of.end()); };
+    const std::string first = text, second = "0.00,-0.01,60.00,-20,0,-1,0,50.00,0,1\r\n";
+    std::vector<uint8_t> run(file, file + start(1));
+    gives(bytes(first), windshear_import_length, windshear_import, run);
+    gives(run, windshear_export_length, windshear_export, bytes(first));
+    lists(run, 3, "sample shear alert voice command float\n0 21000 none 0 off rounded\nred 0 amber 0\n");
+    run.resize(start(2));
+    check(windshear_write_header(2, run.data(), WINDSHEAR_HEADER_SIZE) == WINDSHEAR_ACCEPTED, "the header of two records");
+    check(windshear_write_record({0, -0.01f, 60, -20, 0, -1, 0, 5000, 0, 1}, run.data() + start(1), WINDSHEAR_RECORD_SIZE) == WINDSHEAR_ACCEPTED, "and the second");
+    gives(bytes(first + second), windshear_import_length, windshear_import, run);
+    gives(run, windshear_export_length, windshear_export, bytes(first + second));
+    gives(bytes(first + "\"-00.00\",-00.01,+060.00,-20,-0,-1,\"0\",50.00,0,1\r\n"), windshear_import_length, windshear_import, run);
+
+    const struct { std::string text; int refusal; std::size_t place; } refused[] = {
+        {first.substr(1) + second, WINDSHEAR_REFUSED_CSV_HEADER, 0}, {first + second + "\r\n", WINDSHEAR_REFUSED_CSV_LINE, 0},
+        {first + "0.00,0.00,140.00,400,0,0,0,100.00,2,2\r\n" + second, WINDSHEAR_REFUSED_MODE, 1},
+        {first + second + "0.00,0.00,140.00,400,0,0,0,49.99,0,0\r\n", WINDSHEAR_REFUSED_VS1, 2}};
+    for (const auto &one : refused) refuses(bytes(one.text), windshear_import_length, windshear_import, one.refusal, one.place);
+    run[start(1) + offsetof(windshear_record, mode)] = 2;
+    refuses(run, windshear_export_length, windshear_export, WINDSHEAR_REFUSED_MODE, 1);
+    lists(run, 1, "refused 19 at 1\n");
+    run.pop_back();
+    refuses(run, windshear_export_length, windshear_export, WINDSHEAR_REFUSED_LENGTH, 0);
+    lists(run, 1, "refused 6 at 0\n");
 }
 
 int main() {
@@ -197,6 +272,7 @@ int main() {
 
     floats();
     exact_records();
+    texts();
 
     std::printf("compared %d facts of the C++ interface\n", checks);
     return wrong != 0;

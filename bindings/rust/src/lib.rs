@@ -1,4 +1,5 @@
-//! The proved windshear unit and its run files, for Rust programs. Every function takes every value: what is out of range is refused by its number.
+//! The proved windshear unit and its run files, their listings and their exchange with spreadsheets, for Rust programs. Every function takes every
+//! value: what is out of range is refused by its number.
 //!
 //! It is for x86-64 Linux only: it links target/staticlib/libhost.a, which `rt staticlib host` writes.
 //!
@@ -19,6 +20,9 @@
 
 // a public field without its unit and range is refused where warnings are errors
 #![warn(missing_docs)]
+
+mod tidy;
+pub use tidy::{tidy, Tidied};
 
 /// The bytes of a run file's header. A file is a header and then its records.
 ///
@@ -46,6 +50,8 @@ pub const RECORD_SIZE: usize = 24;
 pub const MAX_RECORDS: usize = 2_600;
 /// The bytes that [`run`] writes for each record. An [`Answer`] is another thing, and larger.
 pub const ANSWER_SIZE: usize = 10;
+/// The bytes of room that [`list`] asks for each line of a listing; no line is longer.
+pub const LISTING_LINE: usize = 64;
 /// A held shear is cut to between minus this and this as it enters the windows; in hundred-thousandths: see [`State`].
 pub const ENTRY_LIMIT: i32 = 34_500;
 /// A float's hundredths are cut to between minus this and this, which is 10,000.00 kt: see [`Hundredths`]. That is beyond every range, so the floats
@@ -183,7 +189,8 @@ pub struct State {
     pub core: Core,
 }
 
-/// The refusal numbers, in the order tested. 0 refuses nothing.
+/// The refusal numbers, in the order tested, but for [`import`] and [`export`], which say their own. 0 refuses nothing; [`meaning`] says a number in
+/// words.
 pub mod refusal {
     /// file shorter than [`HEADER_SIZE`](crate::HEADER_SIZE)
     pub const SHORT: u16 = 1;
@@ -193,7 +200,7 @@ pub mod refusal {
     pub const VERSION: u16 = 3;
     /// sixth byte is not zero
     pub const ZERO: u16 = 4;
-    /// count above [`MAX_RECORDS`](crate::MAX_RECORDS)
+    /// count above [`MAX_RECORDS`](crate::MAX_RECORDS), or a text of more samples
     pub const COUNT: u16 = 5;
     /// length is not [`HEADER_SIZE`](crate::HEADER_SIZE) + [`RECORD_SIZE`](crate::RECORD_SIZE) × count
     pub const LENGTH: u16 = 6;
@@ -201,7 +208,7 @@ pub mod refusal {
     pub const BUFFER: u16 = 7;
     /// the state does not pass: an entry, a counter, the command, the last along wind, the last mode or the place out of range, or a sum that is not its window's
     pub const STATE: u16 = 8;
-    /// along wind of a sample or a record out of range, or a float that is not finite
+    /// along wind of a sample, of a record or of a text's line out of range, or a float that is not finite
     pub const ALONG: u16 = 11;
     /// vertical wind out of range, or a float that is not finite
     pub const VERTICAL: u16 = 12;
@@ -221,6 +228,50 @@ pub mod refusal {
     pub const MODE: u16 = 19;
     /// deselect is neither 0 nor 1
     pub const DESELECT: u16 = 20;
+    /// header line of a text is wrong
+    pub const CSV_HEADER: u16 = 23;
+    /// a line or a field of a text is malformed
+    pub const CSV_LINE: u16 = 24;
+}
+
+/// What a number of [`refusal`] means, in words.
+///
+/// ```
+/// use std::collections::HashSet;
+/// use windshear::{meaning, refusal};
+///
+/// assert_eq!(meaning(refusal::MARK), "the mark is not WSR");
+/// assert_eq!(meaning(refusal::CSV_LINE), "a line or a field is malformed");
+/// // Each of the twenty numbers has words of its own; 0 refuses nothing, and 21 is no number of ours.
+/// let words: HashSet<_> = (0..=8).chain(11..=20).chain([21, 23, 24]).map(meaning).collect();
+/// assert_eq!(words.len(), 20 + 2);
+/// assert_eq!([0, 21].map(meaning), ["nothing is refused", "no such refusal number"]);
+/// ```
+pub fn meaning(number: u16) -> &'static str {
+    match number {
+        0 => "nothing is refused",
+        refusal::SHORT => "the file is shorter than 8 bytes",
+        refusal::MARK => "the mark is not WSR",
+        refusal::VERSION => "the version is not 1",
+        refusal::ZERO => "the sixth byte is not zero",
+        refusal::COUNT => "there are more than 2,600 samples",
+        refusal::LENGTH => "the length is not 8 + 24 x count",
+        refusal::BUFFER => "the lent buffer has the wrong length",
+        refusal::STATE => "the state does not pass",
+        refusal::ALONG => "along wind out of range, or not a finite number",
+        refusal::VERTICAL => "vertical wind out of range, or not a finite number",
+        refusal::AIRSPEED => "true airspeed out of range, or not a finite number",
+        refusal::HEIGHT => "height above ground out of range",
+        refusal::PITCH => "pitch out of range",
+        refusal::STALL => "stall-warning pitch out of range",
+        refusal::CLIMB => "climb out of range",
+        refusal::VS1 => "stall speed Vs1 out of range",
+        refusal::MODE => "mode is neither 0 nor 1",
+        refusal::DESELECT => "deselect is neither 0 nor 1",
+        refusal::CSV_HEADER => "the header line is wrong",
+        refusal::CSV_LINE => "a line or a field is malformed",
+        _ => "no such refusal number",
+    }
 }
 
 /// Which lamp is lit.
@@ -310,6 +361,28 @@ pub struct FileTest {
     pub count: u16,
 }
 
+/// What the output of an import or an export needs, by [`import_length`] and [`export_length`].
+#[repr(C)]
+#[derive(Clone, Copy, Debug, Default, PartialEq, Eq)]
+pub struct Needed {
+    /// the output's exact length in bytes, where `refusal` is 0; else 0
+    pub length: usize,
+    /// for 11 to 20 the first bad line's or record's place from 0, in a long text above 65,535 too; else 0
+    pub place: usize,
+    /// 0, or a number of [`refusal`]: of a text 23, 24, 11 to 20 or 5; of a file 1 to 6, or 11 to 20
+    pub refusal: u16,
+}
+
+/// What an import or an export is answered.
+#[repr(C)]
+#[derive(Clone, Copy, Debug, Default, PartialEq, Eq)]
+pub struct Exchanged {
+    /// for 11 to 20 the first bad line's or record's place from 0, in a long text above 65,535 too; else 0
+    pub place: usize,
+    /// 0 where the output was written; or a number of [`refusal`], as in [`Needed`], or 7
+    pub refusal: u16,
+}
+
 /// Why no record is read.
 #[derive(Clone, Copy, Debug, PartialEq, Eq)]
 pub enum Unread {
@@ -376,6 +449,11 @@ extern "C" {
     fn windshear_test_file(file: *const u8, len: usize) -> FileTest;
     fn windshear_read_record(file: *const u8, len: usize, place: usize) -> Found;
     fn windshear_run(file: *const u8, file_len: usize, answers: *mut u8, len: usize) -> Outcome;
+    fn windshear_import_length(text: *const u8, len: usize) -> Needed;
+    fn windshear_import(text: *const u8, text_len: usize, file: *mut u8, len: usize) -> Exchanged;
+    fn windshear_export_length(file: *const u8, len: usize) -> Needed;
+    fn windshear_export(file: *const u8, file_len: usize, text: *mut u8, len: usize) -> Exchanged;
+    fn windshear_list(file: *const u8, file_len: usize, listing: *mut u8, len: usize) -> usize;
 }
 
 impl State {
@@ -537,6 +615,137 @@ pub fn run(file: &[u8], answers: &mut [u8]) -> Outcome {
     }
 }
 
+/// The exact length of the run file that [`import`] writes for a text, [`HEADER_SIZE`] + [`RECORD_SIZE`] × its lines of samples; or the refusal that it
+/// gives the text whatever the buffer.
+#[must_use]
+pub fn import_length(text: &[u8]) -> Needed {
+    // SAFETY: as for `test_file`.
+    unsafe { windshear_import_length(text.as_ptr(), text.len()) }
+}
+
+/// Writes the run file of a CSV text (RFC 4180) into [`import_length`]'s bytes; or answers a refusal, and `file` stays as it was.
+/// [`import_text`] makes the buffer itself.
+///
+/// The text is one header line with ten names, then a line for each sample with its ten fields in the same order; each line ends in CRLF, the last one
+/// too. The header line alone is a run of no records. The names are `along wind`, `vertical wind`, `true airspeed`, `height above ground`, `pitch`,
+/// `stall-warning pitch`, `climb`, `stall speed Vs1`, `mode` and `deselect`. The four speeds are in knots, a digit or more, a point and exactly two
+/// decimals; the rest are whole, in the units of a [`Sample`]. Each number may have a sign, plus or minus, and any number of leading zeros; a field may
+/// be quoted whole, a name too. The file's floats are those nearest the decimals, so that [`read_record`] finds the same hundredths; zero is plus zero.
+///
+/// It is refused, each over the whole text before the next, by 23; 24; 11 to 20 with the first bad line's place, from 0 after the header line, and the
+/// first number that fits it; 5; 7.
+#[must_use = "a refused import leaves the file as it was"]
+pub fn import(text: &[u8], file: &mut [u8]) -> Exchanged {
+    // SAFETY: as for `run`.
+    unsafe { windshear_import(text.as_ptr(), text.len(), file.as_mut_ptr(), file.len()) }
+}
+
+/// The exact length of the text that [`export`] writes for a run file; or the refusal that it gives the file whatever the buffer.
+#[must_use]
+pub fn export_length(file: &[u8]) -> Needed {
+    // SAFETY: as for `test_file`.
+    unsafe { windshear_export_length(file.as_ptr(), file.len()) }
+}
+
+/// Writes a run file as a CSV text, as [`import`] has it, into [`export_length`]'s bytes; or answers a refusal, and `text` stays as it was.
+/// [`export_file`] makes the buffer itself.
+///
+/// Each speed is written as its hundredths, the rest as they are: no field is quoted, no number has a plus or a needless leading zero, and zero has no
+/// minus. It is refused by 1 to 6; 11 to 20 with the first bad record's place, as [`test_file`] gives it; 7.
+#[must_use = "a refused export leaves the text as it was"]
+pub fn export(file: &[u8], text: &mut [u8]) -> Exchanged {
+    // SAFETY: as for `run`.
+    unsafe { windshear_export(file.as_ptr(), file.len(), text.as_mut_ptr(), text.len()) }
+}
+
+/// Writes the listing of a run file, as the program `listing` prints it, at the start of `listing` and answers its length. A refused file has one line,
+/// `refused N at P`. A buffer that is shorter than the room, [`LISTING_LINE`] bytes for each record and two more lines, or for the one line of a refused
+/// file, stays as it was, and 0 is answered. [`listing`] makes the buffer itself.
+#[must_use = "where it is 0, nothing was listed; else it is where the listing ends"]
+pub fn list(file: &[u8], listing: &mut [u8]) -> usize {
+    // SAFETY: as for `run`.
+    unsafe { windshear_list(file.as_ptr(), file.len(), listing.as_mut_ptr(), listing.len()) }
+}
+
+/// A buffer of the length needed, once it is written; or the refusal.
+fn exchanged(needed: Needed, write: impl FnOnce(&mut [u8]) -> Exchanged) -> Result<Vec<u8>, Exchanged> {
+    let Needed { length, place, refusal } = needed;
+    if refusal != 0 {
+        return Err(Exchanged { place, refusal });
+    }
+    let mut output = vec![0; length];
+    match write(&mut output) {
+        Exchanged { refusal: 0, .. } => Ok(output),
+        refused => Err(refused),
+    }
+}
+
+/// The run file of a CSV text, by [`import`]; or its refusal.
+///
+/// ```
+/// use windshear::{export_file, import_text, read_record, refusal, Exchanged};
+///
+/// let names = "along wind,vertical wind,true airspeed,height above ground,pitch,stall-warning pitch,climb,stall speed Vs1,mode,deselect\r\n";
+/// let text = format!("{names}20.10,-29.40,140.00,400,5000,20000,-700,100.00,1,0\r\n");
+/// let file = import_text(text.as_bytes()).unwrap();
+/// assert_eq!(read_record(&file, 0).unwrap().record.along, 20.10);
+/// assert_eq!(export_file(&file), Ok(text.clone().into_bytes()));
+/// // A quote, a plus and a needless zero are read, and are not written again; nor is a minus before zero.
+/// let other = format!("{names}\"+020.10\",-29.40,140.00,400,5000,20000,-700,100.00,1,-0\r\n");
+/// assert_eq!(import_text(other.as_bytes()), Ok(file));
+/// // Its third line alone is out of range, by its height.
+/// let long = text.clone() + "0.00,0.00,140.00,400,0,0,0,100.00,0,0\r\n0.00,0.00,140.00,5001,0,0,0,100.00,0,2\r\n";
+/// assert_eq!(import_text(long.as_bytes()), Err(Exchanged { place: 2, refusal: refusal::HEIGHT }));
+/// // A line that ends in LF alone is malformed; the header line has its own number.
+/// let refused = |text: String| import_text(text.as_bytes()).unwrap_err();
+/// assert_eq!(refused(names.to_owned() + &text[names.len()..].replace('\r', "")), Exchanged { place: 0, refusal: refusal::CSV_LINE });
+/// assert_eq!(refused(text.replace('\r', "")), Exchanged { place: 0, refusal: refusal::CSV_HEADER });
+/// ```
+pub fn import_text(text: &[u8]) -> Result<Vec<u8>, Exchanged> {
+    exchanged(import_length(text), |file| import(text, file))
+}
+
+/// The CSV text of a run file, by [`export`]; or its refusal.
+///
+/// ```
+/// use windshear::{export_file, refusal, write_header, Exchanged, HEADER_SIZE};
+///
+/// let mut file = [0; HEADER_SIZE];
+/// assert_eq!(export_file(&file), Err(Exchanged { place: 0, refusal: refusal::MARK }));
+/// assert_eq!(write_header(0, &mut file), 0);
+/// let text = String::from_utf8(export_file(&file).unwrap()).unwrap();
+/// assert!(text.starts_with("along wind,vertical wind,") && text.ends_with(",mode,deselect\r\n") && text.lines().count() == 1);
+/// ```
+pub fn export_file(file: &[u8]) -> Result<Vec<u8>, Exchanged> {
+    exchanged(export_length(file), |text| export(file, text))
+}
+
+/// The listing of a run file, by [`list`]; or what refuses the file, as [`test_file`] gives it.
+///
+/// ```
+/// use windshear::{list, listing, refusal, write_header, Outcome, HEADER_SIZE, LISTING_LINE};
+///
+/// let mut file = [0; HEADER_SIZE];
+/// assert_eq!(listing(&file), Err(Outcome { refusal: refusal::MARK, place: 0 }));
+/// // What the listing itself says of it, for which there must be room.
+/// let mut line = [b' '; LISTING_LINE];
+/// assert_eq!(list(&file, &mut line[..63]), 0);
+/// let length = list(&file, &mut line);
+/// assert_eq!(&line[..length], b"refused 2 at 0\n");
+/// assert_eq!(write_header(0, &mut file), 0);
+/// assert_eq!(listing(&file).unwrap(), b"sample shear alert voice command float\nred 0 amber 0\n");
+/// ```
+pub fn listing(file: &[u8]) -> Result<Vec<u8>, Outcome> {
+    let FileTest { refusal, place, count } = test_file(file);
+    if refusal != 0 {
+        return Err(Outcome { refusal, place });
+    }
+    let mut listing = vec![0; LISTING_LINE * (usize::from(count) + 2)];
+    let length = list(file, &mut listing);
+    listing.truncate(length);
+    Ok(listing)
+}
+
 // README.md's Rust lines are doc tests of this crate.
 #[cfg(doctest)]
 #[doc = include_str!("../../../README.md")]
@@ -558,4 +767,6 @@ const _: () = {
     assert!(size_of::<Found>() == 72 && offset_of!(Found, exact) == 4 && offset_of!(Found, record) == 8 && offset_of!(Found, sample) == 32);
     assert!(size_of::<Converted>() == 12 && offset_of!(Converted, exact) == 2 && offset_of!(Converted, cut) == 4);
     assert!(offset_of!(Converted, hundredths) == 8);
+    assert!(size_of::<Needed>() == 24 && offset_of!(Needed, place) == 8 && offset_of!(Needed, refusal) == 16);
+    assert!(size_of::<Exchanged>() == 16 && offset_of!(Exchanged, refusal) == 8);
 };
