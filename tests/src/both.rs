@@ -1,10 +1,12 @@
 //! The reference and the library under the same calls: each call is made of both, and gives what both give, or fails.
 
+use crate::csv::{self, Refusal};
 use crate::files::right_len;
 use crate::gen::CALM;
 use crate::lend::lend;
 use crate::library::{
-    converted, expected, record_bits, refused, sent, sent_record, state_of, with_entries,
+    converted, exchanged, expected, needed, record_bits, refused, sent, sent_record, state_of,
+    with_entries,
 };
 use crate::program::listed;
 use crate::reference::{self, Answer, Reading, Record, Sample, Unit, WINDOWS};
@@ -164,6 +166,38 @@ impl Both {
         want
     }
 
+    pub fn import_length(&self, text: &[u8]) -> Result<usize, Refusal> {
+        let want = csv::import_length(text);
+        let found = windshear::import_length(text);
+        assert_eq!(found, needed(want), "{}", shown(text));
+        self.count(1);
+        want
+    }
+
+    pub fn import(&self, text: &[u8], len: usize) -> Result<Vec<u8>, Refusal> {
+        let want = csv::import(text, len);
+        let answer = want.as_ref().map_err(|&refusal| exchanged(refusal));
+        lend(len, |file| windshear::import(text, file), answer);
+        self.count(2);
+        want
+    }
+
+    pub fn export_length(&self, file: &[u8]) -> Result<usize, Refusal> {
+        let want = csv::export_length(file);
+        let found = windshear::export_length(file);
+        assert_eq!(found, needed(want), "{} bytes", file.len());
+        self.count(1);
+        want
+    }
+
+    pub fn export(&self, file: &[u8], len: usize) -> Result<Vec<u8>, Refusal> {
+        let want = csv::export(file, len);
+        let answer = want.as_ref().map_err(|&refusal| exchanged(refusal));
+        lend(len, |text| windshear::export(file, text), answer);
+        self.count(2);
+        want
+    }
+
     /// The listing, by the program on the library's side.
     pub fn listing(&self, file: &[u8]) -> String {
         let text = listed(file);
@@ -171,6 +205,12 @@ impl Both {
         self.count(1);
         text
     }
+}
+
+/// The start of a text, for a failure.
+fn shown(text: &[u8]) -> String {
+    let start = &text[..text.len().min(2_000)];
+    format!("{} bytes, {}", text.len(), start.escape_ascii())
 }
 
 /// The reference's unit and the library's state, told the same samples.

@@ -1,5 +1,6 @@
-//! The example run files.
+//! The example run files, and the CSV texts of a repair shop.
 
+use crate::csv;
 use crate::files::{file_of_samples, record_of};
 use crate::gen::{plateau, plateaus, series, CALM};
 use crate::reference::{Sample, WINDOWS};
@@ -103,13 +104,43 @@ fn refused() -> Vec<u8> {
     file
 }
 
+/// A shop's approach of nine seconds: a headwind of 14 knots becomes a tailwind of 12 in sinking air, and red
+/// comes on. Its airspeeds and Vs1 are no whole quarters of a knot, so that each record has a rounded float.
+fn shop() -> Vec<Sample> {
+    let mut height = 612 * 1_200;
+    series(180, |i, s| {
+        s.along = eased(&[(15, -1_437), (155, 1_262)], i);
+        s.vertical = eased(&[(15, 4), (85, -643), (180, -118)], i);
+        s.airspeed = 13_862 - s.along / 2;
+        if s.airspeed % 25 == 0 {
+            s.airspeed += 1;
+        }
+        s.pitch = eased(&[(40, 2_310), (110, 3_475), (180, 8_940)], i);
+        s.stall = 14_870;
+        s.climb = eased(&[(15, -712), (100, -1_164), (180, 386)], i);
+        s.vs1 = 10_346;
+        height += s.climb;
+        s.height = height / 1_200;
+    })
+}
+
 /// Every example: its name, and its file.
-pub fn examples() -> [(&'static str, Vec<u8>); 5] {
+pub fn examples() -> [(&'static str, Vec<u8>); 6] {
     [
         ("calm", calm()),
         ("gust", gust()),
         ("microburst", microburst()),
         ("plateau", flat()),
         ("refused", refused()),
+        ("shop", file_of_samples(&shop())),
     ]
+}
+
+/// Every CSV example: its name, and its text. The shop's is that of its run file. The refused one has the same samples, but
+/// for the airspeed at place 57, which is ten times as large: 13 refuses it.
+pub fn texts() -> [(&'static str, Vec<u8>); 2] {
+    let mut list = shop();
+    let text = csv::write(&list);
+    list[57].airspeed *= 10;
+    [("refused", csv::write(&list)), ("shop", text)]
 }

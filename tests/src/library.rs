@@ -1,7 +1,10 @@
 //! The library's types from the reference's.
 
+use crate::csv::Refusal;
 use crate::reference::{self, WINDOWS};
-use windshear::{Answer, Core, Hundredths, Outcome, Record, Sample, State, Sums};
+use windshear::{
+    Answer, Core, Exchanged, Hundredths, Needed, Outcome, Record, Sample, State, Sums,
+};
 
 /// The sample as the library takes it.
 pub fn sent(s: &reference::Sample) -> Sample {
@@ -152,5 +155,23 @@ pub fn converted(hundredths: i128, exact: bool) -> Hundredths {
         number: number as i32,
         exact,
         cut: number != hundredths,
+    }
+}
+
+/// What the output of an import or an export needs.
+pub fn needed(length: Result<usize, Refusal>) -> Needed {
+    let (refusal, place) = length.err().unwrap_or_default();
+    Needed {
+        length: length.unwrap_or(0),
+        place,
+        refusal: refusal.into(),
+    }
+}
+
+/// The answer to an import or an export that is refused.
+pub fn exchanged((refusal, place): Refusal) -> Exchanged {
+    Exchanged {
+        place,
+        refusal: refusal.into(),
     }
 }

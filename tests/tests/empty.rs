@@ -1,7 +1,7 @@
 //! Slices of length 0: what Rust makes of `&[]` and of a buffer's end is answered as the reference answers no bytes, and no byte
 //! beside it is touched.
 
-use windshear::{FileTest, Outcome, Unread};
+use windshear::{Exchanged, FileTest, Needed, Outcome, Unread};
 use windshear_tests::both::Both;
 use windshear_tests::files::{calm_file, calm_with, file_of_samples, record_of};
 use windshear_tests::gen::CALM;
@@ -107,4 +107,49 @@ fn empty_buffers_to_write() {
     }
     println!("compared {compared} answers to empty buffers");
     both.done();
+}
+
+/// A text has its header line and a file its header, so neither is empty: 23 and 1. Nothing is written into no bytes: 7, where nothing
+/// comes before it, and no listing.
+#[test]
+fn empty_exchanges() {
+    let mut compared = 0;
+    let number = |refusal| Exchanged { place: 0, refusal };
+    let needs = |refusal| Needed {
+        refusal,
+        ..Needed::default()
+    };
+    compared += read(windshear::import_length, needs(23));
+    compared += read(windshear::import_text, Err(number(23)));
+    compared += read(windshear::export_length, needs(1));
+    compared += read(windshear::export_file, Err(number(1)));
+    compared += read(windshear::listing, Err(refused(1u8, 0)));
+    for len in [0, 8, 64, 1_000] {
+        let lends = |call: fn(&[u8], &mut [u8]) -> Exchanged, refusal| {
+            read(
+                |empty| {
+                    let mut output = vec![9; len];
+                    let answer = call(empty, &mut output);
+                    (answer, output)
+                },
+                (number(refusal), vec![9; len]),
+            )
+        };
+        compared += lends(windshear::import, 23) + lends(windshear::export, 1);
+    }
+    for count in [0, 1, 2_600] {
+        let file = calm_file(count);
+        let mut text = windshear::export_file(&file).unwrap();
+        compared += lent(|text| windshear::export(&file, text), number(7));
+        compared += lent(|file| windshear::import(&text, file), number(7));
+        text.pop();
+        let bad = if count == 0 { 23 } else { 24 };
+        compared += lent(|file| windshear::import(&text, file), number(bad));
+        compared += lent(|listing| windshear::list(&file, listing), 0);
+        compared += lent(
+            |text| windshear::export(&file[1..], text),
+            number(if count == 0 { 1 } else { 2 }),
+        );
+    }
+    println!("compared {compared} answers to empty texts, files and buffers");
 }

@@ -3,20 +3,25 @@
 use std::collections::BTreeSet;
 use std::fs;
 use windshear_tests::both::Both;
-use windshear_tests::examples::{examples, FOLDER};
+use windshear_tests::examples::{examples, texts, FOLDER};
+use windshear_tests::exchange::Exchange;
 use windshear_tests::files::right_len;
 
 #[test]
 fn stored_as_made() {
     let both = Both::new();
     let mut names = BTreeSet::new();
+    let mut is_stored = |name: String, made: &[u8]| {
+        let stored = fs::read(format!("{FOLDER}/{name}")).unwrap();
+        assert!(stored == made, "{name} is not what make_examples writes");
+        names.insert(name);
+    };
     for (name, made) in examples() {
-        for (ending, made) in [("txt", both.listing(&made).into_bytes()), ("wsr", made)] {
-            let name = format!("{name}.{ending}");
-            let stored = fs::read(format!("{FOLDER}/{name}")).unwrap();
-            assert!(stored == made, "{name} is not what make_examples writes");
-            names.insert(name);
-        }
+        is_stored(format!("{name}.txt"), both.listing(&made).as_bytes());
+        is_stored(format!("{name}.wsr"), &made);
+    }
+    for (name, made) in texts() {
+        is_stored(format!("{name}.csv"), &made);
     }
     let found = fs::read_dir(FOLDER).unwrap();
     let found = found.map(|entry| entry.unwrap().file_name().into_string().unwrap());
@@ -49,6 +54,11 @@ fn what_they_show() {
                 assert_eq!(voice, [0, 1, 2, 3]);
                 assert_eq!(guidance, [0, 1]);
             }
+            "shop" => {
+                assert_eq!(alerts, [0, 2]);
+                assert_eq!(voice, [0, 1, 2, 3, 0]);
+                assert_eq!(guidance, [0, 1]);
+            }
             _ => assert!(bytes.is_empty(), "{name}"),
         }
     }
@@ -67,11 +77,30 @@ fn floats_of_both_kinds() {
             "gust" => [3, 0],
             "microburst" => [54, 546],
             "plateau" => [90, 200],
+            "shop" => [0, 180],
             _ => [0, 0],
         };
         assert_eq!(lines, wanted, "{name}");
     }
     both.done();
+}
+
+/// 02, A3: the shop's text is imported to its run file, which is exported to the same text; the other text is refused.
+#[test]
+fn texts_exchanged() {
+    let mut exchange = Exchange::new();
+    let stored = |name: &str| fs::read(format!("{FOLDER}/{name}")).unwrap();
+    let file = exchange.accepted(&stored("shop.csv"), true);
+    assert!(file == stored("shop.wsr"));
+    assert_eq!(exchange.export(&file), Ok(stored("shop.csv")));
+    exchange.refused(&stored("refused.csv"), 13, 57);
+    for (name, file) in examples() {
+        match exchange.export(&file) {
+            Ok(text) => assert_eq!(exchange.import(&text), Ok(file), "{name}"),
+            Err(refusal) => assert_eq!((name, refusal), ("refused", (11, 20))),
+        }
+    }
+    exchange.done("examples", &[0..=0, 11..=11, 13..=13]);
 }
 
 /// README's listings: the gust's whole, and of the microburst's the lines where the alert, the voice or guidance changes.

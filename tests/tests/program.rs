@@ -6,45 +6,15 @@ use std::io::{Seek, Write};
 use std::os::fd::OwnedFd;
 use std::os::unix::fs::{symlink, PermissionsExt};
 use std::os::unix::net::UnixStream;
-use std::os::unix::process::{CommandExt, ExitStatusExt};
+use std::os::unix::process::CommandExt;
 use std::path::{Path, PathBuf};
-use std::process::{Child, Command, Stdio};
+use std::process::{Child, Command};
 use std::time::Duration;
 use windshear_tests::examples::{examples, FOLDER};
 use windshear_tests::files::file_of_samples;
 use windshear_tests::gen::CALM;
 use windshear_tests::reference::{listing, Sample, RANGES};
-
-const ROOT: &str = concat!(env!("CARGO_MANIFEST_DIR"), "/..");
-
-/// What a command left: its status as a shell gives it, its output, and what it said on standard error.
-#[derive(Debug, PartialEq)]
-struct Left {
-    status: i32,
-    out: String,
-    said: String,
-}
-
-fn left(status: i32, out: &str, said: &str) -> Left {
-    Left { status, out: out.into(), said: said.into() }
-}
-
-/// What was tried, what it left, and what it was to leave.
-type Case = (&'static str, Left, Left);
-
-fn compare(cases: Vec<Case>, what: &str) {
-    for (tried, left, wanted) in &cases {
-        assert_eq!(left, wanted, "{tried}");
-    }
-    println!("compared {} {what}", cases.len());
-}
-
-/// The C locale, so that the shell's reasons are in English; nothing on standard input unless a test says so.
-fn command(path: &str) -> Command {
-    let mut command = Command::new(path);
-    command.env("LC_ALL", "C").stdin(Stdio::null()).stdout(Stdio::piped()).stderr(Stdio::piped());
-    command
-}
+use windshear_tests::shell::{after, command, compare, empty, ended, left, reset_after, run, run_on, run_to, signal, ROOT};
 
 /// The program itself, which `rt check listing` builds.
 fn program() -> Command {
@@ -57,45 +27,9 @@ fn list(file: impl AsRef<Path>) -> Command {
     command
 }
 
-/// The command started by a shell, which first does something to its own files, limits or signals.
-fn after(first: &str, command: &Command) -> Command {
-    let mut shell = self::command("sh");
-    shell.arg("-c").arg(format!("{first}; exec \"$0\" \"$@\"")).arg(command.get_program()).args(command.get_args());
-    shell
-}
-
-fn ended(child: Child) -> Left {
-    let output = child.wait_with_output().unwrap();
-    let status = output.status.code().unwrap_or_else(|| 128 + output.status.signal().unwrap());
-    left(status, &String::from_utf8(output.stdout).unwrap(), &String::from_utf8(output.stderr).unwrap())
-}
-
-fn run(command: &mut Command) -> Left {
-    ended(command.spawn().unwrap())
-}
-
-/// The command run on standard input as given.
-fn run_on(command: &mut Command, input: impl Into<Stdio>) -> Left {
-    run(command.stdin(input))
-}
-
-/// The command run with standard output as given, which a test reads for itself.
-fn run_to(command: &mut Command, output: impl Into<Stdio>) -> Left {
-    run(command.stdout(output))
-}
-
 /// An empty folder of a test's own.
 fn folder(name: &str) -> PathBuf {
-    let folder = Path::new(env!("CARGO_TARGET_TMPDIR")).join(name);
-    if folder.exists() {
-        fs::remove_dir_all(&folder).unwrap();
-    }
-    fs::create_dir(&folder).unwrap();
-    folder
-}
-
-fn signal(name: &str, to: &str) {
-    assert!(Command::new("sh").args(["-c", "kill -s \"$0\" -- \"$1\"", name, to]).status().unwrap().success());
+    empty(Path::new(env!("CARGO_TARGET_TMPDIR")).join(name))
 }
 
 fn example(name: &str) -> (PathBuf, String) {
@@ -107,14 +41,6 @@ fn example(name: &str) -> (PathBuf, String) {
 /// The longest run.
 fn longest() -> Vec<u8> {
     file_of_samples(&[CALM; 2_600])
-}
-
-/// Standard input that gives these bytes and then fails: its other end was closed with a byte unread.
-fn reset_after(bytes: &[u8]) -> OwnedFd {
-    let (mut ours, mut theirs) = UnixStream::pair().unwrap();
-    theirs.write_all(b"x").unwrap();
-    ours.write_all(bytes).unwrap();
-    theirs.into()
 }
 
 fn unread(reason: &str) -> String {
