@@ -1,0 +1,3 @@
+pub mod WaveLaws
+pub mod GuaranteeClaims
+pub mod AnswerClaims
