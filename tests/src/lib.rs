@@ -1,6 +1,6 @@
 //! An independent reference of the windshear unit, its exact fractions and its CSV text, a plain and fast
-//! program beside it, lists of samples, run files, texts and forged states to try a unit with, and the
-//! library under the reference's calls.
+//! program beside it, lists of samples, waveforms, run files, texts and forged states to try a unit with,
+//! and the library under the reference's calls.
 
 pub mod bench;
 pub mod both;
@@ -19,3 +19,4 @@ pub mod reference;
 pub mod saved;
 pub mod shell;
 pub mod texts;
+pub mod waveform;
