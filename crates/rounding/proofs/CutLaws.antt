@@ -6,13 +6,13 @@ use native.Mathlib.Nat.{le-refl, mul-le-mul-right, mul-lt-mul-of-pos-right}
 use native.Mathlib.Omega.{arith}
 use lib.IntN.{ℤ, pos, negsuc, negℤ, natAbs, _*ℤ_}
 use lib.Signed.{leZ, ltZ, _≤ℤ_}
-use Rattle.rounding.specs.Claims.{RoundsInOrder, RoundsThenCuts}
+use Rattle.rounding.specs.Claims.{RoundsTurned, RoundsInOrder, RoundsThenCuts}
 use Rattle.rounding.specs.Cut.{cut, cutF}
 use Rattle.rounding.specs.Fraction.{Fraction, _over_, negF, timesF, ltF, roundF, Positive}
 use Rattle.rounding.proofs.Difference.{up, down, any, nat, negD, *D, eqD, leD, ltD, ofLe, ofLt, sizeD, ofSize}
 use Rattle.rounding.proofs.Fits.{size-neg}
 use Rattle.rounding.proofs.Order.{lt-ltZ, le-ltZ, le-leZ, lt-leZ, ltZ-true, ltZ-le, ltZ-false}
-use Rattle.rounding.proofs.Rounding.{round-whole, round-neg, rounds-in-order}
+use Rattle.rounding.proofs.Rounding.{round-whole, rounds-turned, rounds-in-order}
 
 -- ════ Where a number lies ════
 
@@ -151,7 +151,7 @@ times-cut m b f p = go (ltF f (negF b)) (ltF b f) (ap (ltF (timesF m f)) turned 
     go false false d e = rw (d, e)
 
 pub rounds-then-cuts : RoundsThenCuts
-unfolding RoundsThenCuts RoundsInOrder cutF
+unfolding RoundsThenCuts RoundsTurned RoundsInOrder cutF
 rounds-then-cuts k d f p q = go (ltF f (negF b)) (ltF b f) refl refl
   where
     b : Fraction
@@ -161,7 +161,7 @@ rounds-then-cuts k d f p q = go (ltF f (negF b)) (ltF b f) refl refl
     whole = round-whole (pos k) d p
 
     turned : roundF (negF b) ≡ negℤ (pos k)
-    turned = round-neg (pos (k * d)) d ∙ ap negℤ whole
+    turned = rounds-turned b p ∙ ap negℤ whole
 
     go : (s t : Bool) → ltF f (negF b) ≡ s → ltF b f ≡ t → cut k (roundF f) ≡ roundF (cond s (negF b) (cond t b f))
     go true t e g = cut-low k (roundF f) (rw turned at (rounds-in-order f (negF b) q p (ltZ-le _ _ e))) ∙ sym turned

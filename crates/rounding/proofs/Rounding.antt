@@ -1,13 +1,13 @@
 -- Laws of the rounding rule. `nearest-*` are of sizes, `round-*` of signed numbers.
 use mathlib.Core.Path.{_≡_, refl, sym, ap, _∙_}
 use mathlib.Core.Bool.{true, false}
-use Prim.Native.Nat.{ℕ, zero, suc, _+_, _*_, _-_, _/_, _%_, _≤_, _<_, _^_}
-use native.Mathlib.Nat.{div-add-mod', div-eq-of-lt-le, div-mul-le-self, lt-div-mul-add, div-lt-iff-lt-mul, le-div-iff-mul-le, div-zero, mul-pos, mul-le-mul-right, le-of-mul-le-mul-right, le-mul-of-pos-right, mul-div-mul-right}
+use Prim.Native.Nat.{ℕ, zero, suc, _+_, _*_, _-_, _/_, _≤_, _<_}
+use native.Mathlib.Nat.{div-eq-of-lt-le, div-mul-le-self, lt-div-mul-add, div-lt-iff-lt-mul, le-div-iff-mul-le, div-zero, mul-pos, mul-le-mul-right, le-of-mul-le-mul-right, le-mul-of-pos-right, mul-div-mul-right}
 use native.Mathlib.Decide.{decLt}
 use native.Mathlib.Omega.{arith}
 use lib.IntN.{ℤ, pos, negsuc, negℤ, natAbs, negℤ-negℤ, _-ℤ_, _*ℤ_}
 use lib.Signed.{ltZ, _≤ℤ_}
-use Rattle.rounding.specs.Claims.{RoundsInOrder}
+use Rattle.rounding.specs.Claims.{RoundsTurned, RoundsInOrder}
 use Rattle.rounding.specs.Rounding.{nearest, roundAway, NearestAway}
 use Rattle.rounding.proofs.Difference.{up, down, any, nat, negD, -D, *D, sizeD, leD, ofLe}
 use Rattle.rounding.proofs.Fits.{size-neg, negative, natural}
@@ -21,16 +21,13 @@ near-high : (n d : ℕ) → 0 < d → 2 * n + d < nearest n d * (2 * d) + 2 * d
 unfolding nearest
 near-high n d p = lt-div-mul-add (omega arith)
 
--- by quotient and remainder
-pub nearest-down : (n d : ℕ) → n % d < d - n % d → nearest n d ≡ n / d
+-- half the divisor added, odd or even, and then divided: nothing is doubled
+pub nearest-half : (n d : ℕ) → 0 < d → (n + d / 2) / d ≡ nearest n d
 unfolding nearest
-nearest-down n d h =
-    div-eq-of-lt-le (2 * d) (omega (arith, div-add-mod' n d)) (omega (arith, div-add-mod' n d))
-
-pub nearest-up : (n d : ℕ) → 0 < d → n % d < d → d - n % d ≤ n % d → nearest n d ≡ n / d + 1
-unfolding nearest
-nearest-up n d p l h =
-    div-eq-of-lt-le (2 * d) (omega (arith, div-add-mod' n d)) (omega (arith, div-add-mod' n d))
+nearest-half n d p =
+    let low = div-mul-le-self (n + d / 2) d in
+    let high = lt-div-mul-add {a = n + d / 2} {b = d} p in
+    sym (div-eq-of-lt-le (2 * d) (omega (arith, low)) (omega (arith, high)))
 
 -- at most k, where the fraction is
 pub nearest-le : (n d k : ℕ) → 0 < d → n ≤ k * d → nearest n d ≤ k
@@ -94,7 +91,7 @@ round-over-zero (negsuc n) = ap (λ (m : ℕ). negℤ (pos m)) (nearest-over-zer
 pub round-le : (x : ℤ) (d k : ℕ) → 0 < d → natAbs x ≤ k * d → natAbs (roundAway x d) ≤ k
 round-le x d k p h = rw round-size (nearest-le (natAbs x) d k p h)
 
--- a fraction with its sign turned gives the same number with its sign turned
+-- the sign turned, over any divisor
 pub round-neg : (x : ℤ) (d : ℕ) → roundAway (negℤ x) d ≡ negℤ (roundAway x d)
 unfolding roundAway
 round-neg (pos zero) d = rw (nearest-zero d)
@@ -111,6 +108,10 @@ pub round-whole : (x : ℤ) (d : ℕ) → 0 < d → roundAway (x *ℤ pos d) d �
 unfolding roundAway
 round-whole (pos n) d p = ap pos (nearest-whole n d p)
 round-whole (negsuc n) d p = round-neg (pos (suc n * d)) d ∙ ap (λ (m : ℕ). negℤ (pos m)) (nearest-whole (suc n) d p)
+
+pub rounds-turned : RoundsTurned
+unfolding RoundsTurned
+rounds-turned f p = round-neg (f .num) (f .den)
 
 pub rounds-in-order : RoundsInOrder
 unfolding RoundsInOrder roundAway

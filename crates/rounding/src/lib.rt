@@ -1,21 +1,11 @@
 // One rule: a fraction to the nearest whole number, ties away from zero (01, "Shear"); and a number cut at a bound either way (02, A1).
 ghost use mathlib.Core.Path.{_≡_};
-ghost use Prim.Native.Nat.{_<_, _≤_, _^_};
+ghost use Prim.Native.Nat.{_≤_, _^_};
 ghost use lib.IntN.{pos, negℤ, natAbs};
 ghost use Rattle.rounding.specs.Cut.{cut};
-ghost use Rattle.rounding.specs.Rounding.{nearest, roundAway};
+ghost use Rattle.rounding.specs.Rounding.{roundAway};
 
-// The rule on sizes. By quotient and remainder: nothing is doubled, so nothing overflows.
-fn round_size(n: u64, d: u64) -> u64
-    requires { ⌜ 0 < d ⌝ }
-    ensures { λ r. ⌜ r ≡ nearest n d ⌝ }
-{
-    let q = n / d;
-    let r = n % d;
-    if r < d - r { q } else { q + 1 }
-}
-
-// A number's size. The least i64 has no opposite, so one is added before the sign is turned.
+// A number's size. The least i64 has no opposite, so one is added before the sign is turned, and one after.
 fn size_of(x: i64) -> u64
     ensures { λ r. ⌜ r ≡ natAbs x ⌝ }
 {
@@ -25,7 +15,7 @@ fn size_of(x: i64) -> u64
     x as u64
 }
 
-// The negative number of a size.
+// A size with a minus sign, down to the least i64 in the same way.
 fn minus(size: u64) -> i64
     requires { ⌜ size ≤ 2 ^ 63 ⌝ }
     ensures { λ r. ⌜ r ≡ negℤ (pos size) ⌝ }
@@ -36,18 +26,24 @@ fn minus(size: u64) -> i64
     -((size - 1) as i64) - 1
 }
 
-// num / den to the nearest whole number, ties away from zero. With den 0 there is no fraction, and the answer is 0.
+// num / den to the nearest whole number, ties away from zero. With den 0 there is no fraction, and the answer is 0. A size is at most 2^63 and half of
+// den is below that, so their sum fits.
 pub fn round(num: i64, den: u64) -> i64
     ensures { λ r. ⌜ r ≡ roundAway num den ⌝ }
 {
     if den == 0 {
         return 0;
     }
-    let size = round_size(size_of(num), den);
+    // take the size
+    let size = size_of(num);
+    // round it half up: add half of den, divide, drop the remainder
+    let rounded = (size + den / 2) / den;
+    // put the sign back
     if num < 0 {
-        return minus(size);
+        minus(rounded)
+    } else {
+        rounded as i64
     }
-    size as i64
 }
 
 // A number cut to between -most and most.
