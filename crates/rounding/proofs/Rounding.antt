@@ -12,6 +12,21 @@ use Rattle.rounding.specs.Rounding.{nearest, roundAway, NearestAway}
 use Rattle.rounding.proofs.Difference.{up, down, any, nat, negD, -D, *D, sizeD, leD, ofLe}
 use Rattle.rounding.proofs.Fits.{size-neg, negative, natural}
 
+-- half the divisor added as a whole number, h, and then divided: nothing is doubled
+pub nearest-half : (n d h : ℕ) → 0 < d → 2 * h ≤ d → d < 2 * h + 2 → (n + h) / d ≡ nearest n d
+unfolding nearest
+nearest-half n d h p a b =
+    let low = div-mul-le-self (n + h) d in
+    let high = lt-div-mul-add {a = n + h} {b = d} p in
+    sym (div-eq-of-lt-le (2 * d) (omega (arith, low)) (omega (arith, high)))
+
+-- less than the divisor added, and then divided: no larger than it was
+pub added-le : (n d h : ℕ) → h < d → (n + h) / d ≤ n
+added-le n d h l =
+    let p : 0 < d = omega arith in
+    let q : (n + h) / d < n + 1 = div-lt-iff-lt-mul p .1 (omega (arith, le-mul-of-pos-right n p)) in
+    omega arith
+
 -- the whole number below, plus one half of the divisor
 near-low : (n d : ℕ) → nearest n d * (2 * d) ≤ 2 * n + d
 unfolding nearest
@@ -21,21 +36,10 @@ near-high : (n d : ℕ) → 0 < d → 2 * n + d < nearest n d * (2 * d) + 2 * d
 unfolding nearest
 near-high n d p = lt-div-mul-add (omega arith)
 
--- half the divisor added, odd or even, and then divided: nothing is doubled
-pub nearest-half : (n d : ℕ) → 0 < d → (n + d / 2) / d ≡ nearest n d
-unfolding nearest
-nearest-half n d p =
-    let low = div-mul-le-self (n + d / 2) d in
-    let high = lt-div-mul-add {a = n + d / 2} {b = d} p in
-    sym (div-eq-of-lt-le (2 * d) (omega (arith, low)) (omega (arith, high)))
-
 -- at most k, where the fraction is
 pub nearest-le : (n d k : ℕ) → 0 < d → n ≤ k * d → nearest n d ≤ k
 unfolding nearest
 nearest-le n d k p h = let q : 0 < 2 * d = omega arith in let l : (2 * n + d) / (2 * d) < k + 1 = div-lt-iff-lt-mul q .1 (omega arith) in omega arith
-
-pub nearest-le-self : (n d : ℕ) → 0 < d → nearest n d ≤ n
-nearest-le-self n d p = nearest-le n d n p (le-mul-of-pos-right n p)
 
 pub nearest-over-zero : (n : ℕ) → nearest n 0 ≡ 0
 unfolding nearest

@@ -1,8 +1,8 @@
 -- `rounding::round` meets its contract: the rule on the size, and the sign put back.
 use mathlib.Core.Path.{_≡_, sym, ap, _∙_}
 use mathlib.Core.Bool.{true, false}
-use Prim.Native.Nat.{ℕ, _+_, _/_, _≤_, _<_, _^_}
-use native.Mathlib.Nat.{le-trans}
+use Prim.Native.Nat.{ℕ, _+_, _*_, _/_, _≤_, _<_, _^_}
+use native.Mathlib.Nat.{le-trans, lt-of-le-of-lt}
 use native.Mathlib.Omega.{arith}
 use borrow.Author.Needs.{needs}
 use lib.IntN.{pos, negℤ, natAbs}
@@ -11,7 +11,7 @@ use mir.Syntax.{w64}
 use mir.Facts.{toZ-ofZ, toZ-pos}
 use Rattle.rounding.specs.Rounding.{nearest}
 use Rattle.rounding.proofs.Fits.{natural}
-use Rattle.rounding.proofs.Rounding.{nearest-half, nearest-le-self, round-negative, round-natural, round-over-zero}
+use Rattle.rounding.proofs.Rounding.{nearest-half, added-le, round-negative, round-natural, round-over-zero}
 use Rattle.rounding.proofs.round.Statement.{statement}
 use Rattle.rounding.proofs.round.Tie as tie
 
@@ -37,45 +37,44 @@ add-rounded c =
 div-rounded : tie.Need-div-rounded
 div-rounded c = positive c
 
-abbrev rounded : tie.After-size-of → ℕ
-rounded c = (c .size-of .result + c .before .before .args .den / 2) / c .before .before .args .den
+-- h added to the size, and then divided: at most the size where h is below the divisor, and the nearest where h is half of it. Each need below says
+-- which h the code adds.
+small : (c : tie.After-size-of) (h : ℕ) → h < c .before .before .args .den → (c .size-of .result + h) / c .before .before .args .den ≤ natAbs (c .before .before .args .num)
+small c h l = omega (arith, added-le (c .size-of .result) (c .before .before .args .den) h l, taken c)
 
--- the size, rounded half up; it is at most the size
-half-up : (c : tie.After-size-of) → rounded c ≡ nearest (natAbs (c .before .before .args .num)) (c .before .before .args .den)
-half-up c = let d = c .before .before .args .den in nearest-half (c .size-of .result) d (positive c) ∙ ap (λ (n : ℕ). nearest n d) (taken c)
-
-small : (c : tie.After-size-of) → rounded c ≤ natAbs (c .before .before .args .num)
-small c = let k = c .before .before .args in rw (half-up c) (nearest-le-self (natAbs (k .num)) (k .den) (positive c))
+half-up : (c : tie.After-size-of) (h : ℕ) → 2 * h ≤ c .before .before .args .den → c .before .before .args .den < 2 * h + 2
+    → (c .size-of .result + h) / c .before .before .args .den ≡ nearest (natAbs (c .before .before .args .num)) (c .before .before .args .den)
+half-up c h a b = let d = c .before .before .args .den in nearest-half (c .size-of .result) d h (positive c) a b ∙ ap (λ (n : ℕ). nearest n d) (taken c)
 
 minus-requires : tie.Need-minus-requires
 minus-requires c κs =
     let k = c .before .before .before in
-    le-trans (small (c .before)) (natAbs-le (k .args .num) (k .fits .num .sfits))
+    le-trans (small (c .before) _ (omega (arith, positive (c .before)))) (natAbs-le (k .args .num) (k .fits .num .sfits))
 
 returns-2 : tie.Need-returns-2
 returns-2 c =
     let k = c .before .before .before .before in
     let t : ltZ (k .args .num) (pos 0) ≡ true = rw (toZ-ofZ (k .fits .num)) at (c .before .if2 .taken) in
     toZ-ofZ (record { sfits = c .minus .ok }) ∙ c .minus .ensures
-    ∙ ap (λ (m : ℕ). negℤ (pos m)) (half-up (c .before .before)) ∙ sym (round-negative (k .args .num) (k .args .den) t)
+    ∙ ap (λ (m : ℕ). negℤ (pos m)) (half-up (c .before .before) _ (omega arith) (omega arith)) ∙ sym (round-negative (k .args .num) (k .args .den) t)
 
 -- a number that is not negative is below 2 ^ 63, and so is what the rule gives
 test : (c : tie.Else2) → ltZ (c .before .before .before .args .num) (pos 0) ≡ false
 test c = rw (toZ-ofZ (c .before .before .before .fits .num)) at (c .if2 .left)
 
-fits : (c : tie.Else2) → rounded (c .before) < 2 ^ 63
-fits c =
+below : (c : tie.Else2) → natAbs (c .before .before .before .args .num) < 2 ^ 63
+below c =
     let k = c .before .before .before in
     let m : mag (k .args .num) ≡ natAbs (k .args .num) = rw (natural (k .args .num) (test c)) in
-    omega (arith, small (c .before), k .fits .num .sfits)
+    omega (arith, k .fits .num .sfits)
 
 cast-result : tie.Need-cast-result
-cast-result c = record { sfits = fits c }
+cast-result c = record { sfits = lt-of-le-of-lt (small (c .before) _ (omega (arith, positive (c .before)))) (below c) }
 
 returns-3 : tie.Need-returns-3
 returns-3 c =
     let k = c .before .before .before in
-    toZ-pos w64 (fits c) ∙ ap pos (half-up (c .before)) ∙ sym (round-natural (k .args .num) (k .args .den) (test c))
+    toZ-pos w64 (cast-result c .sfits) ∙ ap pos (half-up (c .before) _ (omega arith) (omega arith)) ∙ sym (round-natural (k .args .num) (k .args .den) (test c))
 
 pub round-spec : {M : Type 1} → statement M
 round-spec =
