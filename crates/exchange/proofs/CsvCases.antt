@@ -5,6 +5,7 @@ use Prim.Native.Nat.{ℕ}
 use Prim.Native.String.{String}
 use lib.IntN.{ℤ, pos, negℤ}
 use lib.ListN.{replicate}
+use Rattle.format.specs.Header.{mostRecords}
 use Rattle.text.specs.Number.{allDigits, valueFrom, wholeSize, twoDecimals, knotsSize, signLength, withSign, wholeOf, knotsOf}
 use Rattle.text.specs.Text.{ascii}
 use Rattle.unit.specs.Choice.{within}
@@ -70,7 +71,7 @@ cases =
     ∷ []
 
 pub all-are : map (λ (c : List ℕ × Tested). testedText (c .0)) cases ≡ map (λ (c : List ℕ × Tested). c .1) cases
-unfolding within ranges inside inRange firstBad refusal allDigits valueFrom wholeSize twoDecimals knotsSize signLength withSign wholeOf knotsOf names speeds longer split quoted unquoted endsInCr fieldsOf same named numberIn andThen numbersOf sampleFrom numbersIn rowThen lastOf rowsOf firstRefused testedSamples testedRows testedLines testedText
+unfolding within ranges inside inRange firstBad refusal allDigits valueFrom wholeSize twoDecimals knotsSize signLength withSign wholeOf knotsOf names speeds longer split quoted unquoted endsInCr fieldsOf same named numberIn andThen numbersOf sampleFrom numbersIn rowThen lastOf rowsOf firstRefused testedSamples testedRows testedLines testedText mostRecords
 all-are = refl
 
 -- ════ Many lines: 11 to 20 come before 5, with places beyond 2,600 ════
@@ -86,5 +87,5 @@ counts =
     ∷ []
 
 pub all-counted : map (λ (c : List Sample × Tested). testedSamples (c .0)) counts ≡ map (λ (c : List Sample × Tested). c .1) counts
-unfolding within ranges inside inRange firstBad refusal sampleFrom firstRefused testedSamples
+unfolding within ranges inside inRange firstBad refusal sampleFrom firstRefused testedSamples mostRecords
 all-counted = refl

@@ -10,31 +10,32 @@ use lib.IntN.{ℤ}
 use lib.ListN.{length, take, drop, length-map, drop-of-length-le, take-append-drop}
 use lib.Seq.{drop-drop}
 use Rattle.format.specs.Claims.{Bytes, WritesReadAt}
-use Rattle.format.specs.Header.{headerSize, headerBytes}
+use Rattle.format.specs.Header.{headerSize, mostRecords, versionIn, countIn, headerBytes}
 use Rattle.format.specs.Reading.{recordStart, bytesAt, foundRecord}
-use Rattle.format.specs.Record.{recordSize, le16, parseOf, recordBytes}
+use Rattle.format.specs.Record.{recordSize, parseOf, recordBytes}
 use Rattle.format.specs.Refusal.{sampleOf, recordRefusal}
 use Rattle.format.specs.declared.Record.{Record}
+use Rattle.format.specs.declared.header.Header.the-variants.{Records}
 use Rattle.format.specs.declared.reading.Reading.{Reading}
 use Rattle.format.proofs.Headers.{header-counted, written-read-header}
 use Rattle.format.proofs.ReadingClaims.{finds-readable, writes-read-at}
-use Rattle.runfile.specs.Run.{recordsOf, samplesIn, testedOf}
-use Rattle.runfile.proofs.RunClaims.{all-accepted}
-use Rattle.runfile.proofs.RunLaws.{AllGood, AcceptedFile, accepted-file, records-length, left, left-all, left-more, left-none}
+use Rattle.runfile.specs.Run.{recordsOf, samplesIn}
+use Rattle.runfile.proofs.RunLaws.{records-length, left, left-all, left-more, left-none}
 use Rattle.text.specs.Text.{absent}
 use Rattle.text.proofs.TextLaws.{absent-append}
 use Rattle.unit.proofs.Choices.{both-true}
-use Rattle.unit.proofs.Claims.{AllAccepted}
 use Rattle.unit.specs.Choice.{AllOf, every}
 use Rattle.unit.specs.Rules.{refusal}
 use Rattle.unit.specs.declared.Sample.{Sample}
 use Rattle.exchange.specs.Claims.{NoneQuoted, PlainFields, PlainText, ExportsImported, ImportsExported, PlainExported, NearestSpeeds, SameBytes}
 use Rattle.exchange.specs.Csv.{Numbers, Rows, names, speeds, comma, quote, lf, split, quoted, endsInCr, fieldsOf, same, named, numbersOf, sampleFrom, numbersIn, rowThen, lastOf, rowsOf}
-use Rattle.exchange.specs.Export.{line, sampleLine, sampleLines, csvText, exportText, exportNeeds}
+use Rattle.exchange.specs.Export.{line, sampleLine, sampleLines, csvText, exportText, exportTested, exportNeeds}
 use Rattle.exchange.specs.Import.{accepted, refused, testedRows, testedLines, testedText, nearestRecord, recordsFile, runFile, importedFile}
-use Rattle.exchange.proofs.ImportClaims.{GoodRun, AcceptedText, accepted-text, good-accepted, in-limit, imported, import-reads}
+use Rattle.exchange.proofs.ExportLaws.{needs-tested}
+use Rattle.exchange.proofs.ImportClaims.{GoodRun, AcceptedText, accepted-text, good-accepted, in-limit, file-version, imported, import-reads}
 use Rattle.exchange.proofs.JoinLaws.{Some, Field, split-some, joined, joined-split, none-quoted, line-back, pieceOf, fields-again, split-line, line-no-quote}
 use Rattle.exchange.proofs.RowLaws.{numbers-same, texts-back, sampleTexts, some-texts, all-fields, sample-again, sample-plain}
+use Rattle.exchange.proofs.VersionLaws.{Unrefused, AllInRange, samples-unrefused, Unnumbered, record-unnumbered, numbered-zero, tested-one, Exportable, exportable}
 
 -- ════ The lines of a text, written back ════
 
@@ -76,14 +77,14 @@ then l next more samples = go (numbersOf speeds (fieldsOf l)) (rowsOf (next ∷ 
     go (Numbers.are n) (Rows.are later) p q e = record { numbers = n; later = later; is = cc; of-first = p; of-later = q }
 
 rows-back : (pieces : List (List ℕ)) (samples : List Sample) → AllOf Bare pieces → AllOf (λ l. PlainFields speeds (fieldsOf l)) pieces → rowsOf pieces ≡ Rows.are samples
-    → AllAccepted samples → joined lf pieces ≡ sampleLines samples
+    → AllInRange samples → joined lf pieces ≡ sampleLines samples
 unfolding rowsOf lastOf joined sampleLines
 rows-back [] samples q p e g = absurd (no-rows e)
 rows-back ([] ∷ []) samples q p e g = let i : samples ≡ [] = cc in rw i
 rows-back ((x ∷ l) ∷ []) samples q p e g = absurd (no-rows e)
 rows-back (l ∷ next ∷ more) samples q p e g =
     let t = then l next more samples e in
-    let g = subst AllAccepted (t .is) g in
+    let g = subst AllInRange (t .is) g in
     let r = rows-back (next ∷ more) (t .later) (q .1) (p .1) (t .of-later) (g .1) in
     ap (λ b. l ++ (lf ∷ b)) r
     ∙ sym (append-assoc l (lf ∷ []) (sampleLines (t .later)))
@@ -128,13 +129,18 @@ text-back text samples a q p =
     ∙ ap (λ t. a .header ++ (lf ∷ t)) (sym rows)
     ∙ ap (joined lf) (sym (a .cut)) ∙ joined-split lf text
 
+imported-tested : (text : List ℕ) (samples : List Sample) → testedText text ≡ accepted samples → exportTested (importedFile text) .refusal ≡ 0
+imported-tested text samples e =
+    let one = ap versionIn (imported text samples e) ∙ file-version samples (accepted-text text samples e .good) in
+    rw (tested-one (importedFile text) one) (import-reads .unrefused text samples e)
+
 pub exports-imported : ExportsImported
 unfolding exportText exportNeeds
 exports-imported =
     record {
       same-text = λ text samples e q p.
           ap csvText (import-reads .same-samples text samples e) ∙ text-back text samples (accepted-text text samples e) q p;
-      unrefused = λ text samples e. rw (eq-eqb (testedOf (importedFile text) .refusal) 0 (import-reads .unrefused text samples e));
+      unrefused = λ text samples e. rw (eq-eqb (exportTested (importedFile text) .refusal) 0 (imported-tested text samples e));
       no-quote = none-quoted;
     }
 
@@ -155,13 +161,13 @@ module _ (s : Sample) where
   row-fields : fieldsOf (pieceOf (sampleTexts s)) ≡ sampleTexts s
   row-fields = fields-again (sampleTexts s) (some-texts s) (all-fields s)
 
-rows-again : (samples : List Sample) → AllAccepted samples → rowsOf (split lf (sampleLines samples)) ≡ Rows.are samples
+rows-again : (samples : List Sample) → AllInRange samples → Unnumbered samples → rowsOf (split lf (sampleLines samples)) ≡ Rows.are samples
 unfolding rowsOf lastOf split sampleLines rowThen sampleFrom numbersIn
-rows-again [] h = refl
-rows-again (s ∷ later) h =
+rows-again [] h u = refl
+rows-again (s ∷ later) h u =
     ap rowsOf (split-row s (sampleLines later))
     ∙ rows-more (pieceOf (sampleTexts s)) (split lf (sampleLines later)) (split-some lf (sampleLines later))
-    ∙ rw (row-fields s, sample-again s (in-limit s (h .0)), rows-again later (h .1))
+    ∙ rw (row-fields s, sample-again s (in-limit s (h .0)), rows-again later (h .1) (u .1)) (ap (λ (t : Sample). Rows.are (t ∷ later)) (numbered-zero s (u .0)))
 
 -- by one computed test
 tested-fields : (l : List (List ℕ)) → every (λ f. absent comma f && (absent quote f && absent lf f)) l ≡ true → AllOf Field l
@@ -186,27 +192,30 @@ unfolding testedText csvText testedRows
 text-again samples g =
     ap testedLines (split-line names some-names name-fields (sampleLines samples))
     ∙ lines-more (pieceOf names) (split lf (sampleLines samples)) (split-some lf (sampleLines samples))
-    ∙ rw (fields-again names some-names name-fields, names-named, rows-again samples (g .all)) (good-accepted samples g)
+    ∙ rw (fields-again names some-names name-fields, names-named, rows-again samples (g .all) (g .unnumbered)) (good-accepted samples g)
 
 -- ════ What was exported is imported with the same samples ════
 
 -- an accepted file has accepted samples, and not too many
-pub samples-counted : (file : List ℕ) → length (samplesIn file) ≡ le16 file 6
+pub samples-counted : (file : List ℕ) → length (samplesIn file) ≡ countIn file
 unfolding samplesIn recordsOf
-samples-counted file = length-map (recordsOf file) sampleOf ∙ records-length (le16 file 6) (drop headerSize file)
+samples-counted file = length-map (recordsOf file) sampleOf ∙ records-length (versionIn file) (countIn file) (drop headerSize file)
 
-good-run : (file : List ℕ) → testedOf file .refusal ≡ 0 → GoodRun (samplesIn file)
-unfolding samplesIn
-good-run file ok =
-    let a = accepted-file file ok in
+good-run : (file : List ℕ) → Exportable file → GoodRun (samplesIn file)
+unfolding samplesIn mostRecords
+good-run file a =
     record {
-      all = all-accepted (recordsOf file) (a .all);
+      all = samples-unrefused (recordsOf file) (a .all);
       most = omega (arith, samples-counted file, a .count, a .most);
+      unnumbered = a .unnumbered;
     }
 
-exported : (file : List ℕ) → testedOf file .refusal ≡ 0 → testedText (exportText file) ≡ accepted (samplesIn file)
+pub unrefused-file : (file : List ℕ) → exportNeeds file .refusal ≡ 0 → Exportable file
+unrefused-file file ok = exportable file (needs-tested file ok)
+
+exported : (file : List ℕ) → exportNeeds file .refusal ≡ 0 → testedText (exportText file) ≡ accepted (samplesIn file)
 unfolding exportText
-exported file ok = text-again (samplesIn file) (good-run file ok)
+exported file ok = text-again (samplesIn file) (good-run file (unrefused-file file ok))
 
 pub imports-exported : ImportsExported
 imports-exported =
@@ -217,13 +226,13 @@ imports-exported =
 
 -- ════ What is exported is plain ════
 
-rows-plain : (samples : List Sample) → AllAccepted samples → AllOf (λ l. PlainFields speeds (fieldsOf l)) (split lf (sampleLines samples))
+rows-plain : (samples : List Sample) → AllInRange samples → AllOf (λ l. PlainFields speeds (fieldsOf l)) (split lf (sampleLines samples))
 unfolding split sampleLines fieldsOf endsInCr PlainFields speeds
 rows-plain [] h = (tt, tt)
 rows-plain (s ∷ later) h =
     rw (split-row s (sampleLines later)) (rw (row-fields s) (sample-plain s (in-limit s (h .0))), rows-plain later (h .1))
 
-text-plain : (samples : List Sample) → AllAccepted samples → PlainText (csvText samples)
+text-plain : (samples : List Sample) → AllInRange samples → PlainText (csvText samples)
 unfolding PlainText csvText
 text-plain samples h = rw (split-line names some-names name-fields (sampleLines samples)) (rows-plain samples h)
 
@@ -244,15 +253,15 @@ unfolding exportText
 plain-exported =
     record {
       no-quote = λ file. text-no-quote (samplesIn file);
-      plain = λ file ok. text-plain (samplesIn file) (good-run file ok .all);
+      plain = λ file ok. text-plain (samplesIn file) (good-run file (unrefused-file file ok) .all);
       same-text = λ file ok. ap csvText (imports-exported .same-samples file ok);
     }
 
 -- ════ And with the same bytes ════
 
-record-same : (r : Record) → NearestSpeeds r → nearestRecord (sampleOf r) ≡ r
+record-same : (r : Record) → NearestSpeeds r → r .frame ≡ 0 → nearestRecord (sampleOf r) ≡ r
 unfolding nearestRecord sampleOf
-record-same r n i =
+record-same r n e i =
     record {
       along = sym (n .along) i;
       vertical = sym (n .vertical) i;
@@ -264,46 +273,51 @@ record-same r n i =
       vs1 = r .vs1;
       mode = r .mode;
       deselect = r .deselect;
+      frame = sym e i;
     }
 
-module _ (file : List ℕ) (a : AcceptedFile file) (bytes : Bytes file) where
+module _ (file : List ℕ) (a : Exportable file) (bytes : Bytes file) where
   abbrev count : ℕ
-  count = le16 file 6
+  count = countIn file
 
   -- the record at a place, written as it stands in the file
-  bytes-same : (i : ℕ) → i < count → recordRefusal (parseOf (bytesAt file i)) ≡ 0 → recordBytes (parseOf (bytesAt file i)) ≡ bytesAt file i
+  bytes-same : (i : ℕ) → i < count → recordRefusal (parseOf 1 (bytesAt 1 file i)) ≡ 0 → recordBytes 1 (parseOf 1 (bytesAt 1 file i)) ≡ bytesAt 1 file i
   unfolding WritesReadAt foundRecord
   bytes-same i below ok =
-      let f = finds-readable .finds file i (record { header = a .header; below = below; unrefused = ok }) in
-      ap (λ (x : Reading). recordBytes (x .«record»)) (sym f) ∙ writes-read-at file i bytes (ap (λ (x : Reading). x .found) f)
+      let good = subst (λ (v : ℕ). recordRefusal (parseOf v (bytesAt v file i)) ≡ 0) (sym (a .version)) ok in
+      let f = finds-readable .finds file i (record { header = a .header; below = below; unrefused = good }) in
+      subst (λ (v : ℕ). recordBytes v (parseOf v (bytesAt v file i)) ≡ bytesAt v file i) (a .version)
+      (ap (λ (x : Reading). recordBytes (versionIn file) (x .«record»)) (sym f) ∙ writes-read-at file i bytes (ap (λ (x : Reading). x .found) f))
 
   -- those from a place on
-  rest-same : (k i : ℕ) → k + i ≡ count → AllGood (left file count i) → AllOf NearestSpeeds (left file count i)
-      → recordsFile (map sampleOf (left file count i)) ≡ drop (recordStart i) file
-  unfolding recordsFile
+  rest-same : (k i : ℕ) → k + i ≡ count → Unrefused (left 1 file count i) → AllOf NearestSpeeds (left 1 file count i)
+      → recordsFile (map sampleOf (left 1 file count i)) ≡ drop (recordStart 1 i) file
+  unfolding recordsFile recordSize
   rest-same zero i e g n =
-      let l : length file ≤ recordStart i = omega (arith, a .size, a .count) in
-      ap (λ m. recordsFile (map sampleOf m)) (left-none file count i (omega arith)) ∙ sym (drop-of-length-le file {i = recordStart i} l)
+      let l : length file ≤ recordStart 1 i = omega (arith, a .size, a .count) in
+      ap (λ m. recordsFile (map sampleOf m)) (left-none 1 file count i (omega arith)) ∙ sym (drop-of-length-le file {i = recordStart 1 i} l)
   rest-same (suc k) i e g n =
       let below : i < count = omega arith in
-      let m = left-more file count i below in
-      let g = subst AllGood m g in
+      let m = left-more 1 file count i below in
+      let g = subst Unrefused m g in
       let n = subst (AllOf NearestSpeeds) m n in
-      let d : recordStart i + recordSize ≡ recordStart (i + 1) = omega arith in
+      let b = bytesAt 1 file i in
+      let d : recordStart 1 i + recordSize 1 ≡ recordStart 1 (i + 1) = omega arith in
       ap (λ t. recordsFile (map sampleOf t)) m
-      ∙ ap (λ r. recordBytes r ++ recordsFile (map sampleOf (left file count (i + 1)))) (record-same (parseOf (bytesAt file i)) (n .0))
+      ∙ ap (λ r. recordBytes 1 r ++ recordsFile (map sampleOf (left 1 file count (i + 1)))) (record-same (parseOf 1 b) (n .0) (record-unnumbered b))
       ∙ rw (bytes-same i below (g .0), rest-same k (i + 1) (omega arith) (g .1) (n .1))
-      (ap (λ t. bytesAt file i ++ t) (ap (λ j. drop j file) (sym d) ∙ sym (drop-drop recordSize (recordStart i) file)) ∙ take-append-drop recordSize (drop (recordStart i) file))
+      (ap (λ t. b ++ t) (ap (λ j. drop j file) (sym d) ∙ sym (drop-drop (recordSize 1) (recordStart 1 i) file)) ∙ take-append-drop (recordSize 1) (drop (recordStart 1 i) file))
 
 pub same-bytes : SameBytes
-unfolding SameBytes runFile samplesIn recordsOf
+unfolding SameBytes runFile samplesIn recordSize
 same-bytes file ok bytes near =
-    let a = accepted-file file ok in
-    let count = le16 file 6 in
-    let all = left-all file count in
+    let a = unrefused-file file ok in
+    let count = countIn file in
+    let all = left-all 1 file count ∙ sym (a .records-are) in
     imported (exportText file) (samplesIn file) (exported file ok)
-    ∙ ap (λ c. headerBytes c ++ recordsFile (samplesIn file)) (samples-counted file)
-    ∙ ap (λ h. h ++ recordsFile (samplesIn file)) (sym (written-read-header file count bytes (header-counted file (a .header))))
+    ∙ ap (λ c. headerBytes 1 c ++ recordsFile (samplesIn file)) (samples-counted file)
+    ∙ ap (λ h. h ++ recordsFile (samplesIn file))
+    (sym (written-read-header file 1 count bytes (header-counted file (a .header) ∙ ap (λ (v : ℕ). Records v count) (a .version))))
     ∙ ap (λ t. take headerSize file ++ t)
-    (ap (λ m. recordsFile (map sampleOf m)) (sym all) ∙ rest-same file a bytes count 0 (omega arith) (subst AllGood (sym all) (a .all)) (subst (AllOf NearestSpeeds) (sym all) near))
+    (ap (λ m. recordsFile (map sampleOf m)) (sym all) ∙ rest-same file a bytes count 0 (omega arith) (subst Unrefused (sym all) (a .all)) (subst (AllOf NearestSpeeds) (sym all) near))
     ∙ take-append-drop headerSize file

@@ -1,3 +1,4 @@
+pub mod VersionLaws
 pub mod SplitLaws
 pub mod FillLaws
 pub mod JoinLaws

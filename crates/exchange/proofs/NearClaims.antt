@@ -13,11 +13,11 @@ use Rattle.runfile.specs.Run.{recordsOf}
 use Rattle.unit.specs.Choice.{AllOf}
 use Rattle.unit.specs.Rules.{refusal}
 use Rattle.unit.specs.declared.Sample.{Sample}
-use Rattle.unit.proofs.Claims.{AllAccepted}
 use Rattle.exchange.specs.Claims.{Written, WrittenSpeeds, AllWritten, ImportNearest, NearestSpeeds, NearImported}
 use Rattle.exchange.specs.Import.{accepted, testedText, nearestRecord, importedFile, fileOf}
-use Rattle.exchange.proofs.ExportClaims.{imports-exported}
+use Rattle.exchange.proofs.ExportClaims.{exports-imported, imports-exported}
 use Rattle.exchange.proofs.ImportClaims.{sizes, accepted-text, imported, records-of, speed-back, import-reads}
+use Rattle.exchange.proofs.VersionLaws.{AllInRange}
 
 -- ════ A sample's floats ════
 
@@ -47,12 +47,12 @@ nearest-speeds s e =
 
 -- ════ A file's ════
 
-all-written : (samples : List Sample) → AllAccepted samples → AllWritten samples (map nearestRecord samples)
+all-written : (samples : List Sample) → AllInRange samples → AllWritten samples (map nearestRecord samples)
 unfolding AllWritten
 all-written [] h = tt
 all-written (s ∷ later) h = (written-speeds s (h .0), all-written later (h .1))
 
-all-nearest : (samples : List Sample) → AllAccepted samples → AllOf NearestSpeeds (map nearestRecord samples)
+all-nearest : (samples : List Sample) → AllInRange samples → AllOf NearestSpeeds (map nearestRecord samples)
 all-nearest [] h = tt
 all-nearest (s ∷ later) h = (nearest-speeds s (h .0), all-nearest later (h .1))
 
@@ -71,7 +71,7 @@ near-imported =
       near = λ text samples e. subst (AllOf NearestSpeeds) (sym (imported-records text samples e)) (all-nearest samples (accepted-text text samples e .good .all));
       same-bytes = λ text samples e.
           ap fileOf
-          (imports-exported .unrefused (importedFile text) (import-reads .unrefused text samples e)
+          (imports-exported .unrefused (importedFile text) (exports-imported .unrefused text samples e)
           ∙ ap accepted (import-reads .same-samples text samples e)
           ∙ sym e);
     }

@@ -10,15 +10,13 @@ use lib.ListN.{length}
 use Rattle.format.specs.Header.{headerSize}
 use Rattle.format.specs.Record.{recordSize}
 use Rattle.runfile.specs.Run.{samplesIn, testedOf}
-use Rattle.runfile.proofs.RunLaws.{accepted-file}
 use Rattle.unit.specs.declared.Sample.{Sample}
 use Rattle.exchange.specs.Claims.{SameBytes, Imports, Exports, RoundTrips}
 use Rattle.exchange.specs.Export.{exportText, exportNeeds}
 use Rattle.exchange.specs.Import.{refused, accepted, testedText, importedFile, neededBy, importNeeds, exchangedBy, leftBy}
 use Rattle.exchange.specs.declared.Exchanged.{Exchanged}
 use Rattle.exchange.specs.declared.Needed.{Needed}
-use Rattle.exchange.proofs.ExportClaims.{exports-imported, imports-exported, same-bytes, samples-counted}
-use Rattle.exchange.proofs.ExportLaws.{needs-tested}
+use Rattle.exchange.proofs.ExportClaims.{exports-imported, imports-exported, unrefused-file, same-bytes, samples-counted}
 use Rattle.exchange.proofs.ImportClaims.{taken, import-reads}
 
 -- ════ A call that is answered 0 ════
@@ -60,14 +58,14 @@ imported {text} {file} c =
 -- ════ Export ════
 
 record Exported (file text : List ℕ) : Type 0 where
-  tested : testedOf file .refusal ≡ 0
+  unrefused : exportNeeds file .refusal ≡ 0
   is : text ≡ exportText file
 
 exported : {file text : List ℕ} → Exports file text → Exported file text
 exported {file} {text} c =
     let e : exchangedBy (exportNeeds file) (length (c .before)) .refusal ≡ 0 = ap (λ (x : Exchanged). x .refusal) (sym (c .promise .answered)) ∙ c .done in
     record {
-      tested = needs-tested file (answered (exportNeeds file) (length (c .before)) e .0);
+      unrefused = answered (exportNeeds file) (length (c .before)) e .0;
       is = c .promise .left ∙ output (exportNeeds file) (exportText file) (c .before) e;
     }
 
@@ -87,8 +85,8 @@ needs-none : (text : List ℕ) (samples : List Sample) → testedText text ≡ a
 unfolding importNeeds neededBy
 needs-none text samples e = rw e
 
-needs-all : (text : List ℕ) (samples : List Sample) → testedText text ≡ accepted samples → importNeeds text .length ≡ headerSize + recordSize * length samples
-unfolding importNeeds neededBy
+needs-all : (text : List ℕ) (samples : List Sample) → testedText text ≡ accepted samples → importNeeds text .length ≡ headerSize + 24 * length samples
+unfolding importNeeds neededBy recordSize
 needs-all text samples e = rw e
 
 pub round-trips : RoundTrips
@@ -99,17 +97,17 @@ round-trips =
       text-back = λ text file back c x q p.
           let i = imported c in
           exported x .is ∙ ap exportText (i .is) ∙ exports-imported .same-text text (i .samples) (i .tested) q p;
-      samples-back = λ file text back x c. ap samplesIn (again x c) ∙ imports-exported .same-samples file (exported x .tested);
-      bytes-back = λ file text back x c bytes near. again x c ∙ same-bytes file (exported x .tested) bytes near;
+      samples-back = λ file text back x c. ap samplesIn (again x c) ∙ imports-exported .same-samples file (exported x .unrefused);
+      bytes-back = λ file text back x c bytes near. again x c ∙ same-bytes file (exported x .unrefused) bytes near;
       exports = λ text file c before after e p room.
           let i = imported c in
           let n : exportNeeds file .refusal ≡ 0 = rw (i .is) (exports-imported .unrefused text (i .samples) (i .tested)) in
           ap (λ (a : Exchanged). a .refusal) (p .answered) ∙ done (exportNeeds file) (length before) n room;
       imports = λ file text x before after e p room.
           let o = exported x in
-          let t : testedText text ≡ accepted (samplesIn file) = rw (o .is) (imports-exported .unrefused file (o .tested)) in
-          let a = accepted-file file (o .tested) in
+          let t : testedText text ≡ accepted (samplesIn file) = rw (o .is) (imports-exported .unrefused file (o .unrefused)) in
+          let a = unrefused-file file (o .unrefused) in
           let l : length file ≡ importNeeds text .length =
-          a .size ∙ ap (λ n. headerSize + recordSize * n) (a .count ∙ sym (samples-counted file)) ∙ sym (needs-all text (samplesIn file) t) in
+          a .size ∙ ap (λ n. headerSize + 24 * n) (a .count ∙ sym (samples-counted file)) ∙ sym (needs-all text (samplesIn file) t) in
           ap (λ (a : Exchanged). a .refusal) (p .answered) ∙ done (importNeeds text) (length before) (needs-none text (samplesIn file) t) (room ∙ l);
     }

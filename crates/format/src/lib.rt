@@ -6,7 +6,8 @@ pub mod reading;
 pub mod records;
 pub mod words;
 
-// A record's ten fields as the file has them: the three speeds in knots as they stand there, bit for bit.
+// A record's fields as the file has them: the three speeds in knots as they stand there, bit for bit; in version 1 the frame number is
+// read as 0, and not written.
 #[repr(C)]
 pub struct Record {
     pub along: f32,
@@ -19,4 +20,5 @@ pub struct Record {
     pub vs1: u16,
     pub mode: u8,
     pub deselect: u8,
+    pub frame: u16,
 }

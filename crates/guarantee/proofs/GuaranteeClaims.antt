@@ -1,18 +1,21 @@
 -- A4's claims over lists. Red's and amber's are one argument: amber's waveform is red's with its signs turned (`amber-is`).
 use mathlib.Core.Bool.{Bool, true, false, _&&_, cond, and-false}
-use mathlib.Core.List.{List, [], _∷_, List·Memᴰ}
+use mathlib.Core.List.{List, [], _∷_, _++_, List·Memᴰ}
 use mathlib.Core.Path.{_≡_, refl, sym, ap, _∙_}
-use Prim.Native.Nat.{ℕ, _+_}
+use Prim.Native.Nat.{ℕ, zero, suc, _+_}
 use native.Mathlib.Omega.{arith}
 use borrow.Author.Tests.{lt-ltb}
-use lib.Dec.{ltb}
-use lib.IntN.{ℤ}
+use lib.Dec.{ltb, eqb}
+use lib.IntN.{ℤ, negℤ}
+use lib.ListN.{replicate}
 use Rattle.guarantee.specs.Guarantee.{TestRow, quietRows, alertRows, quietLimit, highest, RowFacts, turned, ReachesRow, NoneAbove, RedAtRow, RedNever, AmberAtRow, AmberNever, AtLeast, RedInOrder, Guarantee}
-use Rattle.guarantee.proofs.WaveLaws.{entered, Ordered, covers, above, meets, row-meets, none-meets, order-meets, turned-meets}
+use Rattle.guarantee.proofs.WaveLaws.{entered, map-times, none-later, Ordered, ordered-times, covers, above, meets, row-meets, none-meets, order-meets, turned-meets}
+use Rattle.rounding.specs.Cut.{cut}
 use Rattle.unit.proofs.Choices.{both-true}
+use Rattle.unit.proofs.Follow.{not-zero}
 use Rattle.unit.proofs.RangeLaws.{every-member}
 use Rattle.unit.specs.Choice.{anyOf, every}
-use Rattle.unit.specs.Rules.{held, entry, entries, windows, metUp, metDown, inside, band, inBand, condition, redCondition, amberCondition, litFor, redFor, redLit, amberFor, amberLit}
+use Rattle.unit.specs.Rules.{frames, held, entryLimit, entry, entries, windows, metUp, metDown, inside, band, inBand, condition, redCondition, amberCondition, litFor, redFor, redLit, amberFor, amberLit}
 use Rattle.unit.specs.declared.Sample.{Sample}
 
 -- ════ The table ════
@@ -36,7 +39,8 @@ row-facts = record { figures = refl; up = refl; below = refl; positive = refl; i
 entries-are : (l : List Sample) → entries entry l ≡ entered (entries held l)
 unfolding entries entry
 entries-are [] = refl
-entries-are (s ∷ l) = ap (λ t. entry s l ∷ t) (entries-are l)
+entries-are (s ∷ l) =
+    ap (λ t. replicate (frames s l) (entry s l) ++ t) (entries-are l) ∙ sym (map-times (cut entryLimit) (frames s l) (held s l) (entries held l))
 
 red-is : (s : Sample) (l : List Sample) → redCondition (s ∷ l) ≡ (inBand s && meets windows (entries held (s ∷ l)))
 unfolding redCondition condition
@@ -52,7 +56,11 @@ amber-is s l =
 module _ (holds dark : List Sample → Bool) where
   pub lit-now : (s : Sample) (l : List Sample) → holds (s ∷ l) ≡ true → dark (s ∷ l) ≡ false → ltb 0 (litFor holds dark (s ∷ l)) ≡ true
   unfolding litFor
-  lit-now s l h d = rw (d, h) (lt-ltb 0 (litFor holds dark l + 1) (omega arith))
+  lit-now s l h d = rw (d, h) (go (litFor holds dark l))
+    where
+      go : (n : ℕ) → ltb 0 (cond (eqb n 0) 1 (n + frames s l)) ≡ true
+      go zero = refl
+      go (suc n) = rw (not-zero (suc n) (omega arith)) (lt-ltb 0 (suc n + frames s l) (omega arith))
 
   pub stays-dark : (s : Sample) (l : List Sample) → holds (s ∷ l) ≡ false → litFor holds dark l ≡ 0 → litFor holds dark (s ∷ l) ≡ 0
   unfolding litFor
@@ -70,7 +78,7 @@ module _ (holds dark : List Sample → Bool) where
         let covered = every-member (λ r. anyOf (covers r) windows) alertRows r rows-covered m in
         lit-now s l (is s l ∙ rw (b, row-meets windows r (wave (s ∷ l)) covered h)) d
 
-    -- a list without its newest sample has a waveform without its newest shear
+    -- a list without its newest sample has a waveform without what that one entered
     never-lit : ((s : Sample) (l : List Sample) → NoneAbove quietLimit (wave (s ∷ l)) → NoneAbove quietLimit (wave l))
         → (l : List Sample) → NoneAbove quietLimit (wave l) → litFor holds dark l ≡ 0
     unfolding litFor
@@ -89,17 +97,22 @@ unfolding AmberAtRow amberLit amberFor
 amber-at-row = lit-at-row amberCondition redLit (λ l. turned (entries held l)) amber-is
 
 pub red-never : RedNever
-unfolding RedNever redLit redFor NoneAbove entries
-red-never l h = rw (never-lit redCondition (λ l. false) (entries held) red-is (λ s l q. q .1) l h)
+unfolding RedNever redLit redFor entries
+red-never l h = rw (never-lit redCondition (λ l. false) (entries held) red-is (λ s l. none-later quietLimit (frames s l) (held s l) (entries held l)) l h)
 
 pub amber-never : AmberNever
-unfolding AmberNever amberLit amberFor NoneAbove entries
-amber-never l h = rw (never-lit amberCondition redLit (λ l. turned (entries held l)) amber-is (λ s l q. q .1) l h)
+unfolding AmberNever amberLit amberFor entries
+amber-never l h = rw (never-lit amberCondition redLit (λ l. turned (entries held l)) amber-is back l h)
+  where
+    back : (s : Sample) (l : List Sample) → NoneAbove quietLimit (turned (entries held (s ∷ l))) → NoneAbove quietLimit (turned (entries held l))
+    back s l q =
+        none-later quietLimit (frames s l) (negℤ (held s l)) (turned (entries held l)) (rw (map-times negℤ (frames s l) (held s l) (entries held l)) at q)
 
 ordered : (one other : List Sample) → AtLeast one other → Ordered (entries held other) (entries held one)
 unfolding AtLeast entries
 ordered [] [] h = tt
-ordered (s ∷ one) (t ∷ other) h = (h .2, ordered one other (h .3))
+ordered (s ∷ one) (t ∷ other) h =
+    rw (h .2) (ordered-times (frames t other) (held t other) (held s one) (entries held other) (entries held one) (h .3) (ordered one other (h .4)))
 
 same-band : (s t : Sample) (one other : List Sample) → AtLeast (s ∷ one) (t ∷ other) → inBand s ≡ inBand t
 unfolding AtLeast inBand

@@ -100,12 +100,27 @@ sum-most k (suc n) m (x ∷ l) h =
     let t = sumℤ (take n (l ++ replicate m (pos 0))) in
     leD (+D (any x) (any t)) (nat (suc n * k)) (omega (arith, ofLe (h .0) (any x) (nat k), ofLe (sum-most k n m l (h .1)) (any t) (nat (n * k))))
 
+-- a shear as often as it enters, each changed alike
+pub map-times {ℓ κ} : {A : Type ℓ} {B : Type κ} (f : A → B) (n : ℕ) (x : A) (l : List A) → map f (replicate n x ++ l) ≡ replicate n (f x) ++ map f l
+map-times f zero x l = refl
+map-times f (suc n) x l = ap (λ t. f x ∷ t) (map-times f n x l)
+
+-- none is above k without the newest either
+pub none-later : (k n : ℕ) (x : ℤ) (l : List ℤ) → NoneAbove k (replicate n x ++ l) → NoneAbove k l
+unfolding NoneAbove
+none-later k zero x l h = h
+none-later k (suc n) x l h = none-later k n x l (h .1)
+
 -- two waveforms, number by number, the smaller first
 abbrev pub Ordered : List ℤ → List ℤ → Type 0
 Ordered [] [] = Unit {0}
 Ordered [] (y ∷ m) = ⊥
 Ordered (x ∷ l) [] = ⊥
 Ordered (x ∷ l) (y ∷ m) = (x ≤ℤ y) × Ordered l m
+
+pub ordered-times : (n : ℕ) (x y : ℤ) (l m : List ℤ) → x ≤ℤ y → Ordered l m → Ordered (replicate n x ++ l) (replicate n y ++ m)
+ordered-times zero x y l m h k = k
+ordered-times (suc n) x y l m h k = (h, ordered-times n x y l m h k)
 
 sum-order : (n k : ℕ) (l m : List ℤ) → Ordered l m → sumℤ (take n (l ++ replicate k (pos 0))) ≤ℤ sumℤ (take n (m ++ replicate k (pos 0)))
 sum-order zero k l m h = ≤ℤ-refl (pos 0)

@@ -2,7 +2,7 @@
 -- promises, in the plain form or lent in any mixture, with refused samples among them, as demand 3 is (host's Demand3.antt), and of each record of
 -- every accepted run (runfile's Claims.antt). Proved in proofs/AnswerClaims.antt from the claims that answers are the rules'.
 use mathlib.Core.Bool.{true, cond}
-use mathlib.Core.List.{List, [], _∷_, _++_, List·Memᴰ}
+use mathlib.Core.List.{List, _∷_, _++_, List·Memᴰ}
 use mathlib.Core.Path.{_≡_}
 use Prim.Native.Nat.{ℕ}
 use lib.Dec.{ltb}
@@ -10,13 +10,12 @@ use lib.IntN.{ℤ, pos, _-ℤ_}
 use lib.ListN.{length}
 use Rattle.guarantee.specs.Guarantee.{TestRow, alertRows, quietLimit, turned, ReachesRow, NoneAbove, AtLeast}
 use Rattle.format.specs.Record.{le32}
-use Rattle.format.specs.Refusal.{sampleOf}
 use Rattle.format.specs.declared.Record.{Record}
 use Rattle.host.specs.Demand3.{Call, Meets, acceptedOf, alertShown}
-use Rattle.runfile.specs.Claims.{newestFirst, tenAt, alertIn, alertBefore}
+use Rattle.runfile.specs.Claims.{sampleAt, samplesBefore, tenAt, alertIn, alertBefore}
 use Rattle.runfile.specs.Run.{recordsOf, RunPromise}
 use Rattle.runfile.specs.declared.run.Outcome.{Outcome}
-use Rattle.unit.specs.Rules.{refusal, held, entries, inBand, redCondition}
+use Rattle.unit.specs.Rules.{refusalAfter, held, entries, inBand, redCondition}
 use Rattle.unit.specs.declared.Sample.{Sample}
 
 -- what A4 promises of the alert in the answer to an accepted sample, with the accepted samples before it, the newest first
@@ -44,15 +43,15 @@ pub record InOrderAt (t : Sample) (other : List Sample) (alert1 alert2 before2 :
 
 pub record LoneGuaranteed : Type 0 where
   -- the held shears are those that the answers show
-  pub shear : (c : Call) (before : List Call) → Meets (c ∷ before) → refusal (c .sample) ≡ 0 → c .answer .shear ≡ held (c .sample) (acceptedOf before)
+  pub shear : (c : Call) (before : List Call) → Meets (c ∷ before) → refusalAfter (c .sample) (acceptedOf before) ≡ 0 → c .answer .shear ≡ held (c .sample) (acceptedOf before)
   pub accepted :
-      (c : Call) (before : List Call) → Meets (c ∷ before) → refusal (c .sample) ≡ 0
+      (c : Call) (before : List Call) → Meets (c ∷ before) → refusalAfter (c .sample) (acceptedOf before) ≡ 0
       → GuaranteedAt (c .sample) (acceptedOf before) (c .answer .alert)
   -- a refused sample shows no alert, and `acceptedOf` leaves it out
-  pub refused : (c : Call) (before : List Call) → Meets (c ∷ before) → ¬ (refusal (c .sample) ≡ 0) → c .answer .alert ≡ 0
+  pub refused : (c : Call) (before : List Call) → Meets (c ∷ before) → ¬ (refusalAfter (c .sample) (acceptedOf before) ≡ 0) → c .answer .alert ≡ 0
   -- two histories, each up to an accepted sample
   pub in-order :
-      (c d : Call) (one other : List Call) → Meets (c ∷ one) → Meets (d ∷ other) → refusal (c .sample) ≡ 0 → refusal (d .sample) ≡ 0
+      (c d : Call) (one other : List Call) → Meets (c ∷ one) → Meets (d ∷ other) → refusalAfter (c .sample) (acceptedOf one) ≡ 0 → refusalAfter (d .sample) (acceptedOf other) ≡ 0
       → AtLeast (c .sample ∷ acceptedOf one) (d .sample ∷ acceptedOf other)
       → InOrderAt (d .sample) (acceptedOf other) (c .answer .alert) (d .answer .alert) (alertShown other)
 
@@ -70,10 +69,6 @@ pub record RecordAt (file : List ℕ) (earlier : List Record) (r : Record) : Typ
   pub later : List Record
   pub split : recordsOf file ≡ earlier ++ r ∷ later
 
--- the samples of the records before one, the newest first
-abbrev pub samplesBefore : List Record → List Sample
-samplesBefore earlier = newestFirst earlier []
-
 -- of the ten answer bytes at a record's place, the alert, and the "signed 32-bit held shear" (01)
 unfoldable pub alertAt : List ℕ → List Record → ℕ
 alertAt answers earlier = alertIn (tenAt answers (length earlier))
@@ -88,16 +83,16 @@ pub record RunsGuaranteed : Type 0 where
   -- the held shears are those in the records' answer bytes
   pub shear :
       (file after : List ℕ) → AcceptedRun file after → (earlier : List Record) (r : Record) → RecordAt file earlier r
-      → shearAt after earlier ≡ held (sampleOf r) (samplesBefore earlier)
+      → shearAt after earlier ≡ held (sampleAt file earlier r) (samplesBefore file earlier)
   pub each :
       (file after : List ℕ) → AcceptedRun file after → (earlier : List Record) (r : Record) → RecordAt file earlier r
-      → GuaranteedAt (sampleOf r) (samplesBefore earlier) (alertAt after earlier)
+      → GuaranteedAt (sampleAt file earlier r) (samplesBefore file earlier) (alertAt after earlier)
   -- two runs, each up to a record; `AtLeast` has as many samples in both, so the records stand at one place
   pub in-order :
       (file1 after1 file2 after2 : List ℕ) → AcceptedRun file1 after1 → AcceptedRun file2 after2
       → (one other : List Record) (r q : Record) → RecordAt file1 one r → RecordAt file2 other q
-      → AtLeast (sampleOf r ∷ samplesBefore one) (sampleOf q ∷ samplesBefore other)
-      → InOrderAt (sampleOf q) (samplesBefore other) (alertAt after1 one) (alertAt after2 other) (alertBefore after2 (length other))
+      → AtLeast (sampleAt file1 one r ∷ samplesBefore file1 one) (sampleAt file2 other q ∷ samplesBefore file2 other)
+      → InOrderAt (sampleAt file2 other q) (samplesBefore file2 other) (alertAt after1 one) (alertAt after2 other) (alertBefore after2 (length other))
 
 -- A4, whole, for what users see
 pub record AllGuaranteed : Type 0 where

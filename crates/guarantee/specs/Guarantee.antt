@@ -1,6 +1,7 @@
 -- A4 of 02, sentence by sentence, over the list of samples from a fresh start alone, the newest first: no state, no counter. "Shops ask what
--- we promise beyond nine rows tried. Prove it for every waveform." A waveform is a list of held shears, which are what `held` of Rules.antt gives. The
--- samples are the accepted ones, though no claim here needs that. Answers.antt says the same of what users see. Proved in proofs/GuaranteeClaims.antt.
+-- we promise beyond nine rows tried. Prove it for every waveform." A waveform is a list of held shears, which are what `held` of Rules.antt gives, each
+-- as often as its sample stands for frames: A4 reads "the entries at judged samples" (A6). The samples are the accepted ones, though no claim here needs
+-- that. Answers.antt says the same of what users see. Proved in proofs/GuaranteeClaims.antt.
 use mathlib.Core.Bool.{Bool, true, false, _&&_}
 use mathlib.Core.List.{List, [], _∷_, _++_, map, List·Memᴰ}
 use mathlib.Core.Path.{_≡_}
@@ -12,13 +13,13 @@ use lib.Signed.{_≤ℤ_}
 use Rattle.rounding.specs.Fraction.{Fraction, _over_, _≤F_, sumℤ}
 use Rattle.unit.specs.Choice.{AllOf, anyOf, every}
 use Rattle.unit.specs.Figures.{Figure, exposure, unstarred}
-use Rattle.unit.specs.Rules.{held, entryLimit, entries, lastOf, inBand, redCondition, redLit, amberLit}
+use Rattle.unit.specs.Rules.{frames, held, entryLimit, entries, lastOf, inBand, redCondition, redLit, amberLit}
 use Rattle.unit.specs.declared.Sample.{Sample}
 
 -- ════ The nine rows of 000, appendix 1, 4.d.(7) and (8) ════
 
 -- "f_av,x", in hundred-thousandths as a shear is held; "Time of Exposure"; and "Alert Within", for amber by 4.d.(7), for red by (8). The words are
--- 003's; the times are in samples, twenty to a second.
+-- 003's; the times are in frames, twenty to a second.
 pub record TestRow : Type 0 where
   pub value : ℕ
   pub exposure : ℕ
@@ -123,13 +124,13 @@ AmberAtRow =
 unfoldable pub AmberNever : Type 0
 AmberNever = (l : List Sample) → NoneAbove quietLimit (turned (entries held l)) → amberLit l ≡ false
 
--- "two runs with equal heights and modes, if each held shear of one is at least the other's": sample by sample, the one first
+-- "two runs with equal heights and modes, if each held shear of one is at least the other's", "with equal frames" (A6): sample by sample, the one first
 unfoldable pub AtLeast : (one other : List Sample) → Type 0
 AtLeast [] [] = Unit {0}
 AtLeast [] (t ∷ other) = ⊥
 AtLeast (s ∷ one) [] = ⊥
 AtLeast (s ∷ one) (t ∷ other) =
-    (s .height ≡ t .height) × (s .mode ≡ t .mode) × (held t other ≤ℤ held s one) × AtLeast one other
+    (s .height ≡ t .height) × (s .mode ≡ t .mode) × (frames s one ≡ frames t other) × (held t other ≤ℤ held s one) × AtLeast one other
 
 -- ".. the red condition holds in it wherever it holds in the other.": the lists are the two runs' up to any one place. Shears beyond the cut are
 -- allowed, and no rule of the red condition reads the mode.

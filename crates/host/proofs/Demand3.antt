@@ -9,7 +9,7 @@ use Rattle.runfile.proofs.RunClaims.{demand-3-run}
 use Rattle.unit.proofs.Claims.{states-pass, answers-by-rules, demand-3-lone}
 use Rattle.unit.proofs.Promises.{plain-says}
 use Rattle.unit.specs.Claims.{stateAfter, answerTo, lastAlert, StatesPass, AnswersByRules, Demand3Lone}
-use Rattle.unit.specs.Rules.{refusal}
+use Rattle.unit.specs.Rules.{refusalAfter}
 use Rattle.unit.specs.Steps.{offerOf, PlainPromise}
 use Rattle.unit.specs.declared.Answer.{Answer}
 use Rattle.unit.specs.declared.Sample.{Sample}
@@ -40,11 +40,11 @@ unfolding Meets answerTo
 answer-same c l m = said (c .form) _ (c .sample) _ _ (m .0) .0 ∙ ap (λ t. offerOf t (c .sample) .answer) (state-same l (m .1))
 
 alert-same : (l : List Call) → Meets l → alertShown l ≡ lastAlert (samples l)
-unfolding Meets alertShown lastAlert
+unfolding Meets acceptedOf alertShown lastAlert
 alert-same [] m = refl
 alert-same (c ∷ l) m =
-    ap (λ a. cond (eqb (refusal (c .sample)) 0) (a .alert) (alertShown l)) (answer-same c l m)
-    ∙ ap (λ n. cond (eqb (refusal (c .sample)) 0) (answerTo (c .sample) (samples l) .alert) n) (alert-same l (m .1))
+    ap (λ a. cond (eqb (refusalAfter (c .sample) (acceptedOf l)) 0) (a .alert) (alertShown l)) (answer-same c l m)
+    ∙ ap (λ n. cond (eqb (refusalAfter (c .sample) (acceptedOf l)) 0) (answerTo (c .sample) (samples l) .alert) n) (alert-same l (m .1))
 
 pub demand-3 : Demand3
 unfolding Meets acceptedOf StatesPass AnswersByRules Demand3Lone

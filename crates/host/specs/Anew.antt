@@ -6,9 +6,9 @@ use mathlib.Core.Path.{_≡_}
 use Rattle.host.specs.Demand3.{Call, Meets, acceptedOf}
 use Rattle.runfile.specs.Claims.{RunsSummedAnew}
 use Rattle.unit.specs.Claims.{listAnswer}
-use Rattle.unit.specs.Rules.{refusal}
+use Rattle.unit.specs.Rules.{refusalAfter}
 
 pub record AllSummedAnew : Type 0 where
   -- samples offered alone, in the plain form or lent, in any mixture, with refused ones among them
-  pub lone : (c : Call) (before : List Call) → Meets (c ∷ before) → refusal (c .sample) ≡ 0 → c .answer ≡ listAnswer (c .sample) (acceptedOf before)
+  pub lone : (c : Call) (before : List Call) → Meets (c ∷ before) → refusalAfter (c .sample) (acceptedOf before) ≡ 0 → c .answer ≡ listAnswer (c .sample) (acceptedOf before)
   pub run : RunsSummedAnew

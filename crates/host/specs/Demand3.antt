@@ -8,7 +8,9 @@
 --
 -- The claim is over every history of calls, and knows of a call only what the function of its form promises: any answers and any states that meet
 -- the promises will do. So it is not a claim about a single call, nor about one way to meet the promises. Averages are of exact shears, unrounded,
--- "cut at plus and minus 0.34500" (02, A1), from the list alone: a unit that rounded, cut or stored them wrongly would still be held to it.
+-- "cut at plus and minus 0.34500" (02, A1), from the list alone: a unit that rounded, cut or stored them wrongly would still be held to it. Each "takes
+-- the same divided change .. and enters that many times", as many as the frames that its sample stands for; averages are read "at judged samples" (02,
+-- A6).
 use mathlib.Core.List.{List, [], _∷_, map}
 use mathlib.Core.Bool.{true, cond}
 use mathlib.Core.Path.{_≡_}
@@ -17,7 +19,7 @@ use lib.Dec.{eqb}
 use Rattle.host.specs.Lent.{LentPromise}
 use Rattle.runfile.specs.Claims.{Demand3Run}
 use Rattle.unit.specs.Claims.{accepted, shows, Demand3At}
-use Rattle.unit.specs.Rules.{refusal, windows}
+use Rattle.unit.specs.Rules.{refusalAfter, windows}
 use Rattle.unit.specs.Steps.{freshState, passes, refusedOf, PlainPromise}
 use Rattle.unit.specs.declared.Answer.{Answer}
 use Rattle.unit.specs.declared.Sample.{Sample}
@@ -53,14 +55,14 @@ unfoldable pub Meets : List Call → Type 0
 Meets [] = Unit {0}
 Meets (c ∷ before) = Promised (c .form) (stateLeft before) (c .sample) (c .answer) (c .after) × Meets before
 
--- the samples of a history that are accepted: "exactly the samples that no refusal number fits"
+-- the samples of a history that are accepted: "exactly the samples that no refusal number fits"; 21 by the accepted one before it (02, A6)
 unfoldable pub acceptedOf : List Call → List Sample
 acceptedOf l = accepted (map (λ c. c .sample) l)
 
 -- the alert in the answer to the last accepted sample; 0 where there was none: "it is dark at the start" (the trust)
 unfoldable pub alertShown : List Call → ℕ
 alertShown [] = 0
-alertShown (c ∷ before) = cond (eqb (refusal (c .sample)) 0) (c .answer .alert) (alertShown before)
+alertShown (c ∷ before) = cond (eqb (refusalAfter (c .sample) (acceptedOf before)) 0) (c .answer .alert) (alertShown before)
 
 pub record Demand3 : Type 0 where
   -- every list of samples, in any mixture of the forms, has such a history: after each, a call of either form with any sample can be answered
@@ -71,10 +73,11 @@ pub record Demand3 : Type 0 where
   -- the first number that fits it
   pub rules :
       (c : Call) (before : List Call) → Meets (c ∷ before)
-      → c .answer ≡ cond (eqb (refusal (c .sample)) 0) (shows (c .sample) (acceptedOf before)) (refusedOf (refusal (c .sample)))
+      → c .answer
+      ≡ cond (eqb (refusalAfter (c .sample) (acceptedOf before)) 0) (shows (c .sample) (acceptedOf before)) (refusedOf (refusalAfter (c .sample) (acceptedOf before)))
   -- "this is so at each accepted one" (the trust): red is alert 2 and the command is shown where guidance is 1, each in the call's own answer
   pub lone :
-      (c : Call) (before : List Call) → Meets (c ∷ before) → refusal (c .sample) ≡ 0
+      (c : Call) (before : List Call) → Meets (c ∷ before) → refusalAfter (c .sample) (acceptedOf before) ≡ 0
       → Demand3At windows (c .sample) (acceptedOf before) (eqb (alertShown before) 2) (eqb (c .answer .alert) 2) (eqb (c .answer .guidance) 1) (c .answer .command)
   -- "The same holds at each record of every accepted run." (the trust)
   pub run : Demand3Run

@@ -83,23 +83,23 @@ pub extern "C" fn windshear_hundredths(bits: u32) -> ConvertedFloat
     }
 }
 
-// Eight header bytes; or 5 or 7, and the buffer untouched.
+// Eight header bytes of a version; or 3, 5 or 7, and the buffer untouched.
 #[no_mangle]
-pub extern "C" fn windshear_write_header(count: u32, buf: &mut [u8]) -> u16
-    ensures { λ r. ⌜ (r ≡ writeHeaderRefusal count (length (now (buf .entry)))) × (now (buf .exit) ≡ writtenHeader count (now (buf .entry))) ⌝ }
+pub extern "C" fn windshear_write_header(version: u32, count: u32, buf: &mut [u8]) -> u16
+    ensures { λ r. ⌜ (r ≡ writeHeaderRefusal version count (length (now (buf .entry)))) × (now (buf .exit) ≡ writtenHeader version count (now (buf .entry))) ⌝ }
 {
-    format::header::write(count, buf)
+    format::header::write(version, count, buf)
 }
 
-// 24 record bytes; or 7 or 11 to 20, and the buffer untouched.
+// 24 record bytes, or 26 in version 2; or 3, 7 or 11 to 20, and the buffer untouched.
 #[no_mangle]
-pub extern "C" fn windshear_write_record(record: Record, buf: &mut [u8]) -> u16
-    ensures { λ r. ⌜ (r ≡ writeRecordRefusal «record» (length (now (buf .entry)))) × (now (buf .exit) ≡ writtenRecord «record» (now (buf .entry))) ⌝ }
+pub extern "C" fn windshear_write_record(version: u32, record: Record, buf: &mut [u8]) -> u16
+    ensures { λ r. ⌜ (r ≡ writeRecordRefusal version «record» (length (now (buf .entry)))) × (now (buf .exit) ≡ writtenRecord version «record» (now (buf .entry))) ⌝ }
 {
-    format::records::write(record, buf)
+    format::records::write(version, record, buf)
 }
 
-// A file's own test: 1 to 6, then 11 to 20 with the first bad record's place; or the count of its records.
+// A file's own test: 1 to 6, then 11 to 21 with the first bad record's place; or the count of its records and its version.
 #[no_mangle]
 pub extern "C" fn windshear_test_file(file: &[u8]) -> FileTest
     ensures { λ r. ⌜ r ≡ fileTestOf (now (file .entry)) ⌝ }
@@ -148,7 +148,8 @@ pub extern "C" fn windshear_import(text: &[u8], file: &mut [u8]) -> Exchanged
     exchange::import::import(text, file)
 }
 
-// The exact length of the CSV text that a run file becomes; or 1 to 6, or 11 to 20 with the first bad record's place.
+// The exact length of the CSV text that a run file of version 1 becomes; or 1 to 6, 3 for any other version, or 11 to 20 with the first bad record's
+// place.
 #[no_mangle]
 pub extern "C" fn windshear_export_length(file: &[u8]) -> Needed
     ensures { λ r. ⌜ r ≡ exportNeeds (now (file .entry)) ⌝ }
@@ -156,7 +157,7 @@ pub extern "C" fn windshear_export_length(file: &[u8]) -> Needed
     exchange::export::export_length(file)
 }
 
-// The CSV text that a run file becomes; or the refusal with its place, and the buffer untouched.
+// The CSV text that a run file of version 1 becomes; or the refusal with its place, and the buffer untouched.
 #[no_mangle]
 pub extern "C" fn windshear_export(file: &[u8], text: &mut [u8]) -> Exchanged
     ensures { λ r. ⌜ ExportPromise (now (file .entry)) (now (text .entry)) r (now (text .exit)) ⌝ }

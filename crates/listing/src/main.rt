@@ -1,4 +1,4 @@
-// Lists one run file from standard input (01, "The listing"). At most 62,409 bytes are read, one more than the longest run has.
+// Lists one run file from standard input (01, "The listing"). At most 65,009 bytes are read (02, A6), one more than the longest run has.
 // Where a run can't be read or its listing can't be written, it says so in one line on standard error: a fault is no verdict on the file.
 ghost use mathlib.Core.Path.{_≡_};
 ghost use lib.ListN.{take};
@@ -13,8 +13,8 @@ use libc::STDOUT_FILENO;
 // The header, 2,600 lines and the totals, 64 bytes each.
 const ROOM: usize = 64 * (header::MOST + 2);
 
-// "at most 62,409 bytes": one more than the longest run has.
-const MOST_READ: usize = header::SIZE + raw::SIZE * header::MOST + 1;
+// "up to 65,009 bytes" (02, A6): one more than the longest run has, which is of version 2.
+const MOST_READ: usize = header::SIZE + raw::SIZE_2 * header::MOST_2 + 1;
 
 // How many bytes were read, and whether a read failed before the input's end.
 struct Input {

@@ -45,9 +45,9 @@ panel =
     ∷ worked (pos 2000) (pos 0) (pos 14000) (pos 3704000000000) 1765197 209834936 2098349 209834986 882598 3704000882598 2098349 (pos 2098349)
     ∷ []
 
--- the shear of a row's winds, in hundred-thousandths: at an airspeed, and at its own
+-- the shear of a row's winds over one frame, in hundred-thousandths: at an airspeed, and at its own
 abbrev pub shearAt : ℤ → Worked → Fraction
-shearAt a w = timesF 100000 (exactShear (w .c) (w .vertical) a)
+shearAt a w = timesF 100000 (exactShear (w .c) 1 (w .vertical) a)
 
 abbrev pub shearOf : Worked → Fraction
 shearOf w = shearAt (w .airspeed) w

@@ -23,7 +23,7 @@ use Rattle.rounding.proofs.Order.{le-leZ, lt-leZ}
 use Rattle.rounding.proofs.Sums.{sum-error, sum-positive}
 use Rattle.unit.specs.Choice.{anyOf, every}
 use Rattle.unit.specs.Claims.{tolerance, tableValue, averageOf, Reaches, Below, PositiveDivisors}
-use Rattle.unit.specs.Rules.{held, heldShear, exact, entryLimit, entry, exactEntry, entries, Window, lastOf, windowSum, average, limit, metUp}
+use Rattle.unit.specs.Rules.{frames, held, heldShear, exact, entryLimit, entry, exactEntry, entries, Window, lastOf, windowSum, average, limit, metUp}
 use Rattle.unit.specs.declared.Sample.{Sample}
 use Rattle.unit.proofs.RangeLaws.{every-member}
 
@@ -107,15 +107,26 @@ entry-is : (s : Sample) (l : List Sample) → Positive (exact s l) → entry s l
 unfolding entry exactEntry held heldShear exact
 entry-is s l p = hold-cut (exact s l) p
 
+-- entries that come in more than once: each of them, and then the rest
+all-again : (n : ℕ) (f g : Fraction) (l m : List Fraction) → (Positive f → Positive g) → (AllPositive l → AllPositive m)
+    → AllPositive (replicate n f ++ l) → AllPositive (replicate n g ++ m)
+all-again zero f g l m p q h = q h
+all-again (suc n) f g l m p q h = (p (h .0), all-again n f g l m p q (h .1))
+
+held-again : (n : ℕ) (x : ℤ) (f g : Fraction) (e : List ℤ) (l m : List Fraction) → (Positive f → x ≡ hold g) → (AllPositive l → e ≡ map hold m)
+    → AllPositive (replicate n f ++ l) → replicate n x ++ e ≡ map hold (replicate n g ++ m)
+held-again zero x f g e l m p q h = q h
+held-again (suc n) x f g e l m p q h = rw (held-again n x f g e l m p q (h .1), p (h .0))
+
 entries-are : (l : List Sample) → AllPositive (entries exact l) → entries entry l ≡ map hold (entries exactEntry l)
 unfolding entries
 entries-are [] h = refl
-entries-are (s ∷ l) h = rw (entry-is s l (h .0), entries-are l (h .1))
+entries-are (s ∷ l) h = held-again (frames s l) (entry s l) (exact s l) (exactEntry s l) (entries entry l) (entries exact l) (entries exactEntry l) (entry-is s l) (entries-are l) h
 
 cut-entries : (l : List Sample) → AllPositive (entries exact l) → AllPositive (entries exactEntry l)
 unfolding entries exactEntry
 cut-entries [] h = tt
-cut-entries (s ∷ l) h = (cut-positive (pos entryLimit over 100000) (exact s l) (lit< tt) (h .0), cut-entries l (h .1))
+cut-entries (s ∷ l) h = all-again (frames s l) (exact s l) (exactEntry s l) (entries exact l) (entries exactEntry l) (cut-positive (pos entryLimit over 100000) (exact s l) (lit< tt)) (cut-entries l) h
 
 -- a window's sum is that of the exact entries, each held
 window-is : (n : ℕ) (l : List Sample) → AllPositive (entries exact l)

@@ -1,16 +1,16 @@
 -- Laws of the choices and comparisons that the rules are written with.
 use mathlib.Core.Path.{_≡_, refl}
 use mathlib.Core.Bool.{Bool, true, false, not, _&&_, and-eq-true-iff, cond}
-use Prim.Native.Nat.{ℕ, suc}
+use Prim.Native.Nat.{ℕ, zero, suc}
 use native.Mathlib.Nat.{suc-ne-zero}
 use native.Mathlib.Omega.{arith}
-use borrow.Author.Tests.{lt-ltb, le-ltb, leb-true, leb-false}
+use borrow.Author.Tests.{ne-eqb, lt-ltb, le-ltb, leb-true, leb-false}
 use lib.Dec.{ltb, leb}
 use lib.IntN.{ℤ, pos, negsuc}
 use lib.Signed.{ltZ, leZ, _≤ℤ_, ≤ℤ-refl}
 use Rattle.rounding.proofs.Difference.{any, leD, ofLe}
 use Rattle.rounding.proofs.Order.{ltZ-le, ltZ-false}
-use Rattle.unit.specs.Choice.{firstOf, smaller, larger}
+use Rattle.unit.specs.Choice.{firstOf, orElse, smaller, larger}
 
 -- what holds of each of two, where the test picks it, holds of the one that is picked
 pub cond-has {ℓ} : {A : Type ℓ} (P : A → Type 0) (t : Bool) {a b : A} → (t ≡ true → P a) → (t ≡ false → P b) → P (cond t a b)
@@ -25,6 +25,12 @@ both-true a b = and-eq-true-iff a b .0
 pub passed : (ok : Bool) (n later : ℕ) → firstOf ok (suc n) later ≡ 0 → (ok ≡ true) × (later ≡ 0)
 passed true n later e = (refl, e)
 passed false n later e = absurd (suc-ne-zero n e)
+
+-- no number found, and none that comes later
+pub none-found : (earlier later : ℕ) → orElse earlier later ≡ 0 → (earlier ≡ 0) × (later ≡ 0)
+unfolding orElse
+none-found zero later e = (refl, e)
+none-found (suc n) later e = absurd (suc-ne-zero n (rw (ne-eqb (suc n) 0 (suc-ne-zero n)) at e))
 
 -- the one order by the other
 ltb-not : (a b : ℕ) → ltb a b ≡ not (leb b a)

@@ -4,22 +4,23 @@ use mathlib.Core.Bool.{Bool, true, false, _&&_, _||_, cond}
 use mathlib.Core.List.{List, [], _∷_, _++_, List·Memᴰ}
 use mathlib.Core.Logic.{_⊎_, ⊎-elim}
 use mathlib.Core.Path.{_≡_, refl, sym, ap, _∙_, subst}
-use Prim.Native.Nat.{ℕ, _+_, _≤_, _<_, min}
+use Prim.Native.Nat.{ℕ, zero, suc, _+_, _≤_, _<_, min}
 use native.Mathlib.Nat.{mul-pos}
 use native.Mathlib.Omega.{arith}
-use borrow.Author.Tests.{eqb-true, eqb-false, eq-eqb, ne-eqb, lt-ltb}
-use lib.Dec.{T, ltb, eqb, lit<, lit≤}
+use borrow.Author.Tests.{eqb-true, eqb-false, eq-eqb, ne-eqb, lt-ltb, ltb-false}
+use lib.Dec.{T, ltb, leb, eqb, lit<, lit≤}
 use lib.IntN.{ℤ, pos, natAbs}
+use lib.ListN.{replicate}
 use lib.Signed.{leZ, _≤ℤ_, leZ-yes}
 use Rattle.rounding.specs.Cut.{cut}
-use Rattle.rounding.specs.Fraction.{AllPositive}
+use Rattle.rounding.specs.Fraction.{Fraction, Positive, AllPositive}
 use Rattle.rounding.proofs.CutLaws.{cut-le}
 use Rattle.rounding.proofs.Difference.{any, nat, leD, ofSize}
 use Rattle.rounding.proofs.Fits.{size-ge}
 use Rattle.unit.specs.Choice.{neg, firstOf, within, same, anyOf, every}
 use Rattle.unit.specs.Claims.{stateAfter, answerTo, accepted, StatesPass, LeftPasses, shows, AnswersByRules, RefusedIsNothing, StatesHold, listAfter, listAnswer, SummedAnew, Reaches, Below, PositiveDivisors, lastAlert, Demand3Lone}
-use Rattle.unit.specs.Rules.{ranges, inside, refusal, exactShear, held, exact, entryLimit, entry, entries, Window, windows, inBand, lastOf, windowSum, metUp, condition, redCondition, litFor, redFor, redLit, amberFor, amberLit, voiceFor, guidance, Guidance, off, on, isOn, commandOf, guidanceBy}
-use Rattle.unit.specs.Steps.{freshCore, freshState, readFrom, backOf, sumsOf, shearOf, entryOf, coreWith, windowsOf, lampsOf, voiceOf, guideOf, pitchOf, shownBy, acceptOf, heldFits, countersFit, lastFits, sameSums, ringFits, passes, refusedOf, refusalOf, offerOf}
+use Rattle.unit.specs.Rules.{ranges, inside, refusal, frames, thenFrames, refusalAfter, exactShear, held, exact, entryLimit, entry, entries, Window, windows, inBand, lastOf, windowSum, metUp, condition, redCondition, litFor, redFor, redLit, amberFor, amberLit, voiceFor, guidance, Guidance, off, on, isOn, commandOf, guidanceBy}
+use Rattle.unit.specs.Steps.{freshCore, freshState, readFrom, sumsOf, framesOf, shearOf, entryOf, coreWith, windowsOf, lampsOf, voiceOf, guideOf, pitchOf, shownBy, acceptOf, entryFits, heldFits, countersFit, lastFits, sameSums, ringFits, passes, refusedOf, refusalBy, refusalOf, offerOf, RingValid}
 use Rattle.unit.specs.declared.Answer.{Answer}
 use Rattle.unit.specs.declared.Offered.{Offered}
 use Rattle.unit.specs.declared.Sample.{Sample}
@@ -27,78 +28,61 @@ use Rattle.unit.specs.declared.State.{State}
 use Rattle.unit.specs.declared.pitch.Guide.{Guide}
 use Rattle.unit.proofs.Averages.{table-positive, table-met, table-unmet}
 use Rattle.unit.proofs.Choices.{cond-has, passed}
-use Rattle.unit.proofs.Follow.{coreOf, Follows, toGuide, countOf, shear-follows, entry-follows, guide-next, core-next, answered, left, left-follows, accept-follows}
-use Rattle.unit.proofs.Holding.{fresh-holds, accept-holds, fits-holds}
+use Rattle.unit.proofs.Follow.{coreOf, Follows, toGuide, countOf, not-zero, frames-follows, shear-follows, entry-follows, guide-next, core-next, answered, frames-are, left, left-follows, accept-follows}
+use Rattle.unit.proofs.Holding.{fresh-holds, accept-holds, fits-holds, times-valid}
 use Rattle.unit.proofs.PitchLaws.{lamp-le, unless-le, voice-le, count-le, command-ge, command-le, command-cap}
-use Rattle.unit.proofs.RangeLaws.{every-set, bounds, inside-bounds, in-range-fields, in-range, Passing, passing, passes-of}
+use Rattle.unit.proofs.RangeLaws.{within-of, cut-fits, bounds, inside-bounds, in-range-fields, in-range, frames-passed, none-after, frame-at-least, Passing, passing, passes-of}
 
 -- ════ Accepted samples ════
 
 abbrev pub AllAccepted : List Sample → Type 0
 AllAccepted [] = Unit {0}
-AllAccepted (s ∷ l) = (refusal s ≡ 0) × AllAccepted l
+AllAccepted (s ∷ l) = (refusalAfter s l ≡ 0) × AllAccepted l
 
-cond-accepted : (s : Sample) (l : List Sample) (t : Bool) → eqb (refusal s) 0 ≡ t → AllAccepted l → AllAccepted (cond t (s ∷ l) l)
-cond-accepted s l true e h = (eqb-true (refusal s) 0 e, h)
+cond-accepted : (s : Sample) (l : List Sample) (t : Bool) → eqb (refusalAfter s l) 0 ≡ t → AllAccepted l → AllAccepted (cond t (s ∷ l) l)
+cond-accepted s l true e h = (eqb-true (refusalAfter s l) 0 e, h)
 cond-accepted s l false e h = h
 
-accepted-all : (l : List Sample) → AllAccepted (accepted l)
+pub accepted-all : (l : List Sample) → AllAccepted (accepted l)
 unfolding accepted
 accepted-all [] = tt
-accepted-all (s ∷ l) = cond-accepted s (accepted l) (eqb (refusal s) 0) refl (accepted-all l)
+accepted-all (s ∷ l) = cond-accepted s (accepted l) (eqb (refusalAfter s (accepted l)) 0) refl (accepted-all l)
 
 pub accepted-same : (l : List Sample) → AllAccepted l → accepted l ≡ l
 unfolding accepted
 accepted-same [] h = refl
-accepted-same (s ∷ l) h = rw (eq-eqb (refusal s) 0 (h .0)) (ap (λ t. s ∷ t) (accepted-same l (h .1)))
+accepted-same (s ∷ l) h = rw (accepted-same l (h .1), eq-eqb (refusalAfter s l) 0 (h .0))
 
 -- ════ What an accepted sample leaves passes 8 ════
-
-abbrev fits : ℤ → Bool
-fits x = within (neg 50000000) x (pos 50000000)
-
-within-of : {lo x hi : ℤ} → lo ≤ℤ x → x ≤ℤ hi → within lo x hi ≡ true
-unfolding within
-within-of {lo} {x} {hi} h k = go (leZ lo x) (leZ x hi) (h .le) (k .le)
-  where
-    go : (a b : Bool) → T a → T b → (a && b) ≡ true
-    go true true s t = refl
-    go true false s t = absurd t
-    go false b s t = absurd s
-
-size-fits : (x : ℤ) → natAbs x ≤ 50000000 → fits x ≡ true
-size-fits x h =
-    let s = ofSize 1 {k = 50000000} (omega arith) (any x) in
-    within-of (leD (any (neg 50000000)) (any x) (omega arith)) (leD (any x) (nat 50000000) (omega arith))
-
-cut-fits : (x : ℤ) → fits (cut entryLimit x) ≡ true
-cut-fits x = size-fits (cut entryLimit x) (omega (arith, cut-le entryLimit x))
 
 at-most : {n k : ℕ} → n ≤ k → k ≤ 600 → n ≤ 600
 at-most h k = omega (arith, h, k)
 
 next-passing : (t : State) (s : Sample) → Passing t → refusal s ≡ 0 → Passing (acceptOf t s .state)
-unfolding ranges acceptOf entryOf windowsOf coreWith shownBy lampsOf voiceOf pitchOf guideOf shearOf
+unfolding ranges acceptOf entryOf windowsOf coreWith shownBy lampsOf voiceOf pitchOf guideOf heldFits
 next-passing t s p h =
     let f = in-range-fields s h in
+    let ring : RingValid t = record { held-in = p .held-in; ring-fits = p .ring-fits } in
     record {
-      held-in = every-set fits (t .held) (backOf (t .core .place)) _ (p .held-in) (cut-fits (shearOf (t .core) s));
+      held-in = times-valid (framesOf (t .core) s) t (entryOf (t .core) s) (cut-fits (shearOf (t .core) s)) ring .held-in;
       seen-le = lit≤ tt;
-      red-le = at-most (lamp-le _ _) (lit≤ tt);
-      amber-le = at-most (unless-le _ _) (at-most (lamp-le _ _) (lit≤ tt));
-      voice-le = at-most (voice-le _ _) (lit≤ tt);
-      guidance-le = count-le _ s _;
-      command-in = within-of (command-ge _ s _ (bounds (p .command-in) .0) (inside-bounds (f .pitch-in) .0) (inside-bounds (f .stall-in) .0)) (command-le _ s _);
+      red-le = at-most (lamp-le _ _ _) (lit≤ tt);
+      amber-le = at-most (unless-le _ _) (at-most (lamp-le _ _ _) (lit≤ tt));
+      voice-le = at-most (voice-le _ _ _) (lit≤ tt);
+      guidance-le = count-le _ s _ _;
+      command-in = within-of (command-ge _ s _ _ (bounds (p .command-in) .0) (inside-bounds (f .pitch-in) .0) (inside-bounds (f .stall-in) .0)) (command-le _ s _ _);
       along-in = f .along-in;
       mode-in = f .mode-in;
       ring-fits = fits-holds .fits (acceptOf t s .state) _ (accept-holds t s _ (fits-holds .holds t (p .ring-fits)));
     }
 
 pub left-passes : LeftPasses
-unfolding LeftPasses offerOf refusalOf
+unfolding LeftPasses offerOf refusalOf refusalBy
 left-passes t s e =
-    let b = passed (passes t) 7 (refusal s) e in
-    rw (eq-eqb (firstOf (passes t) 8 (refusal s)) 0 e) (passes-of (acceptOf t s .state) (next-passing t s (passing t (b .0)) (b .1)))
+    let b = passed (passes t) 7 (thenFrames (refusal s) (framesOf (t .core) s)) e in
+    let r = frames-passed (refusal s) (framesOf (t .core) s) (b .1) in
+    rw (eq-eqb (firstOf (passes t) 8 (thenFrames (refusal s) (framesOf (t .core) s))) 0 e)
+    (passes-of (acceptOf t s .state) (next-passing t s (passing t (b .0)) (r .0)))
 
 -- ════ The claims on states and answers ════
 
@@ -135,21 +119,29 @@ module _ (t : State) (s : Sample) (l : List Sample) (f : Follows t l) (p : passe
   taken = record { answer = shows s l; state = left s l t f }
 
   abbrev kept : Offered
-  kept = record { answer = refusedOf (refusal s); state = t }
+  kept = record { answer = refusedOf (refusalAfter s l); state = t }
 
-  offered : offerOf t s ≡ cond (eqb (refusal s) 0) taken kept
-  unfolding offerOf refusalOf
-  offered = rw (p, accept-follows s l t f)
+  refusal-is : refusalOf t s ≡ refusalAfter s l
+  unfolding refusalOf refusalBy refusalAfter
+  refusal-is = rw (p, frames-are s l t f)
 
-  offer-answers : offerOf t s .answer ≡ cond (eqb (refusal s) 0) (shows s l) (refusedOf (refusal s))
-  offer-answers = ap (λ (r : Offered). r .answer) offered ∙ go (eqb (refusal s) 0)
+  offered : offerOf t s ≡ cond (eqb (refusalAfter s l) 0) taken kept
+  unfolding offerOf
+  offered = rw refusal-is (go (eqb (refusalAfter s l) 0) refl)
     where
-      go : (b : Bool) → cond {A = Offered} b taken kept .answer ≡ cond b (shows s l) (refusedOf (refusal s))
+      go : (b : Bool) → eqb (refusalAfter s l) 0 ≡ b → cond b (acceptOf t s) kept ≡ cond b taken kept
+      go true e = accept-follows s l t f (frame-at-least s l (eqb-true (refusalAfter s l) 0 e))
+      go false e = refl
+
+  offer-answers : offerOf t s .answer ≡ cond (eqb (refusalAfter s l) 0) (shows s l) (refusedOf (refusalAfter s l))
+  offer-answers = ap (λ (r : Offered). r .answer) offered ∙ go (eqb (refusalAfter s l) 0)
+    where
+      go : (b : Bool) → cond {A = Offered} b taken kept .answer ≡ cond b (shows s l) (refusedOf (refusalAfter s l))
       go true = refl
       go false = refl
 
-  offer-follows : Follows (offerOf t s .state) (cond (eqb (refusal s) 0) (s ∷ l) l)
-  offer-follows = rw offered (go (eqb (refusal s) 0))
+  offer-follows : Follows (offerOf t s .state) (cond (eqb (refusalAfter s l) 0) (s ∷ l) l)
+  offer-follows = rw offered (go (eqb (refusalAfter s l) 0))
     where
       go : (b : Bool) → Follows (cond {A = Offered} b taken kept .state) (cond b (s ∷ l) l)
       go true = left-follows s l t f
@@ -164,14 +156,17 @@ pub answers-by-rules : AnswersByRules
 unfolding AnswersByRules answerTo StatesPass
 answers-by-rules s before = offer-answers (stateAfter before) s (accepted before) (state-follows before) (states-pass before)
 
--- where a number fits the sample, the state is as it was, whether it passes 8 or not
-refused-skips : (t : State) (bad : Sample) → ¬ (refusal bad ≡ 0) → offerOf t bad .state ≡ t
-unfolding refusalOf
-refused-skips t bad h = offer-refused t bad (λ e. h (passed (passes t) 7 (refusal bad) e .1))
+-- where a number fits the sample after the accepted ones before it, the state is as it was
+refused-skips : (before : List Sample) (bad : Sample) → ¬ (refusalAfter bad (accepted before) ≡ 0) → offerOf (stateAfter before) bad .state ≡ stateAfter before
+unfolding StatesPass
+refused-skips before bad h =
+    let e = refusal-is (stateAfter before) bad (accepted before) (state-follows before) (states-pass before) in
+    offer-refused (stateAfter before) bad (λ z. h (sym e ∙ z))
 
-state-skips : (later before : List Sample) (bad : Sample) → ¬ (refusal bad ≡ 0) → stateAfter (later ++ bad ∷ before) ≡ stateAfter (later ++ before)
+state-skips : (later before : List Sample) (bad : Sample) → ¬ (refusalAfter bad (accepted before) ≡ 0)
+    → stateAfter (later ++ bad ∷ before) ≡ stateAfter (later ++ before)
 unfolding stateAfter
-state-skips [] before bad h = refused-skips (stateAfter before) bad h
+state-skips [] before bad h = refused-skips before bad h
 state-skips (s ∷ later) before bad h = ap (λ t. offerOf t s .state) (state-skips later before bad h)
 
 pub refused-is-nothing : RefusedIsNothing
@@ -180,12 +175,21 @@ refused-is-nothing before later bad next h = ap (λ t. offerOf t next) (state-sk
 
 -- ════ Demand 3 ════
 
+-- an entry that comes in more than once, and then the rest
+all-times : (n : ℕ) (f : Fraction) (l : List Fraction) → Positive f → AllPositive l → AllPositive (replicate n f ++ l)
+all-times zero f l p h = h
+all-times (suc n) f l p h = (p, all-times n f l p h)
+
+shear-positive : (s : Sample) (l : List Sample) → refusalAfter s l ≡ 0 → Positive (exact s l)
+unfolding exact exactShear
+shear-positive s l e =
+    let a = size-ge (s .airspeed) (in-range s (none-after s l e .0) .airspeed-ge) in
+    mul-pos (mul-pos {m = 1765197} (lit< tt) (frame-at-least s l e)) (omega arith)
+
 exact-positive : (l : List Sample) → AllAccepted l → AllPositive (entries exact l)
-unfolding entries exact exactShear
+unfolding entries
 exact-positive [] h = tt
-exact-positive (s ∷ l) h =
-    let a = size-ge (s .airspeed) (in-range s (h .0) .airspeed-ge) in
-    (mul-pos {m = 1765197} (lit< tt) (omega arith), exact-positive l (h .1))
+exact-positive (s ∷ l) h = all-times (frames s l) (exact s l) (entries exact l) (shear-positive s l (h .0)) (exact-positive l (h .1))
 
 -- the alert that the rules show, and when it is red
 alert-of : List Sample → ℕ
@@ -213,32 +217,41 @@ two-red (s ∷ l) f = go (redLit (s ∷ l)) refl
     go true e = absurd (f (red-two s l e))
     go false e = e
 
-pub answer-is : (s : Sample) (before : List Sample) → refusal s ≡ 0 → answerTo s before ≡ shows s (accepted before)
+pub answer-is : (s : Sample) (before : List Sample) → refusalAfter s (accepted before) ≡ 0 → answerTo s before ≡ shows s (accepted before)
 unfolding AnswersByRules
-answer-is s before e = answers-by-rules s before ∙ rw (eq-eqb (refusal s) 0 e)
+answer-is s before e = answers-by-rules s before ∙ rw (eq-eqb (refusalAfter s (accepted before)) 0 e)
 
 last-is : (l : List Sample) → lastAlert l ≡ alert-of (accepted l)
 unfolding lastAlert accepted alert-of
 last-is [] = refl
-last-is (s ∷ l) = go (last-is l) (eqb (refusal s) 0) refl
+last-is (s ∷ l) = go (last-is l) (eqb (refusalAfter s (accepted l)) 0) refl
   where
-    go : lastAlert l ≡ alert-of (accepted l) → (t : Bool) → eqb (refusal s) 0 ≡ t
+    go : lastAlert l ≡ alert-of (accepted l) → (t : Bool) → eqb (refusalAfter s (accepted l)) 0 ≡ t
         → cond t (answerTo s l .alert) (lastAlert l) ≡ alert-of (cond t (s ∷ accepted l) (accepted l))
-    go h true e = ap (λ a. a .alert) (answer-is s l (eqb-true (refusal s) 0 e))
+    go h true e = ap (λ a. a .alert) (answer-is s l (eqb-true (refusalAfter s (accepted l)) 0 e))
     go h false e = h
 
 -- red is lit where its condition holds; dark before and without its condition, it stays dark
-red-step : (s : Sample) (l : List Sample) → redFor (s ∷ l) ≡ cond (redCondition (s ∷ l) || (redLit l && ltb (redFor l) 60)) (redFor l + 1) 0
-unfolding redFor litFor redLit
+red-step : (s : Sample) (l : List Sample)
+    → redFor (s ∷ l)
+    ≡ cond (eqb (redFor l) 0) (cond (redCondition (s ∷ l)) 1 0) (cond (redCondition (s ∷ l) || leb (redFor l + frames s l) 60) (redFor l + frames s l) 0)
+unfolding redFor litFor
 red-step s l = refl
 
 lit-by : (s : Sample) (l : List Sample) → redCondition (s ∷ l) ≡ true → redLit (s ∷ l) ≡ true
 unfolding redLit
-lit-by s l e = rw (red-step s l, e) (lt-ltb 0 (redFor l + 1) (omega arith))
+lit-by s l e = rw (red-step s l, e) (go (redFor l))
+  where
+    go : (n : ℕ) → ltb 0 (cond (eqb n 0) 1 (n + frames s l)) ≡ true
+    go zero = refl
+    go (suc n) = rw (not-zero (suc n) (omega arith)) (lt-ltb 0 (suc n + frames s l) (omega arith))
 
 stays-dark : (s : Sample) (l : List Sample) → redLit l ≡ false → redCondition (s ∷ l) ≡ false → redLit (s ∷ l) ≡ false
 unfolding redLit
-stays-dark s l d e = let z : redFor (s ∷ l) ≡ 0 = red-step s l ∙ rw (e, d) in rw z
+stays-dark s l d e =
+    let none : redFor l ≡ 0 = omega (arith, ltb-false 0 (redFor l) d) in
+    let z : redFor (s ∷ l) ≡ 0 = red-step s l ∙ rw (none, e) in
+    rw z
 
 condition-in : (s : Sample) (l : List Sample) → redCondition (s ∷ l) ≡ (inBand s && anyOf (metUp (entries entry (s ∷ l))) windows)
 unfolding redCondition condition
@@ -256,9 +269,9 @@ command-caps : (s : Sample) (l : List Sample)
 command-caps s l =
     let comes = eqb (min (redFor (s ∷ l)) 60) 1 in
     let g = toGuide (guidance l) in
-    subst (λ (r : Guide). (r .command ≤ℤ pos 27000) × ((r .count ≡ 0 → ⊥) → r .command ≤ℤ s .stall)) (guide-next s l) (command-le g s comes, command-cap g s comes)
+    subst (λ (r : Guide). (r .command ≤ℤ pos 27000) × ((r .count ≡ 0 → ⊥) → r .command ≤ℤ s .stall)) (guide-next s l) (command-le g s (frames s l) comes, command-cap g s (frames s l) comes)
 
-module _ (before : List Sample) (s : Sample) (e : refusal s ≡ 0) where
+module _ (before : List Sample) (s : Sample) (e : refusalAfter s (accepted before) ≡ 0) where
   -- the answer is the rules' over the accepted samples, all of which have a positive airspeed
   alert-is : answerTo s before .alert ≡ shows s (accepted before) .alert
   alert-is = ap (λ a. a .alert) (answer-is s before e)
@@ -309,26 +322,32 @@ fresh-core : freshCore ≡ coreOf 0 []
 unfolding freshCore coreOf entries redFor litFor amberFor voiceFor guidance guidanceBy commandOf sumsOf windowSum lastOf
 fresh-core = refl
 
-list-entered : (l : List Sample) → listAfter l .core ≡ coreOf 0 l → listAfter l .list ≡ entries entry l
-    → (s : Sample) → entryOf (listAfter l .core) s ∷ listAfter l .list ≡ entries entry (s ∷ l)
+list-entered : (l : List Sample) → listAfter l .core ≡ coreOf 0 l → listAfter l .list ≡ entries entry l → (s : Sample)
+    → replicate (framesOf (listAfter l .core) s) (entryOf (listAfter l .core) s) ++ listAfter l .list ≡ entries entry (s ∷ l)
 unfolding entries
-list-entered l c e s = rw (c, e, entry-follows s l 0)
+list-entered l c e s = rw (c, e, frames-follows s l 0, entry-follows s l 0)
 
-list-follows : (l : List Sample) → (listAfter l .list ≡ entries entry l) × (listAfter l .core ≡ coreOf 0 l)
+list-follows : (l : List Sample) → AllAccepted l → (listAfter l .list ≡ entries entry l) × (listAfter l .core ≡ coreOf 0 l)
 unfolding listAfter entries
-list-follows [] = (refl, fresh-core)
-list-follows (s ∷ l) =
-    let h = list-follows l in
+list-follows [] a = (refl, fresh-core)
+list-follows (s ∷ l) a =
+    let h = list-follows l (a .1) in
     let e = list-entered l (h .1) (h .0) s in
-    (e, ap (λ list. shownBy (coreWith (sumsOf list) 0 s (listAfter l .core)) s) e ∙ ap (λ c. shownBy (coreWith (sumsOf (entries entry (s ∷ l))) 0 s c) s) (h .1) ∙ core-next s l 0)
+    let n = framesOf (listAfter l .core) s in (
+      e,
+      ap (λ list. shownBy (coreWith (sumsOf list) 0 s (listAfter l .core)) s n) e
+          ∙ ap (λ c. shownBy (coreWith (sumsOf (entries entry (s ∷ l))) 0 s c) s (framesOf c s)) (h .1)
+          ∙ ap (λ n. shownBy (coreWith (sumsOf (entries entry (s ∷ l))) 0 s (coreOf 0 l)) s n) (frames-follows s l 0)
+          ∙ core-next s l 0 (frame-at-least s l (a .0)),
+    )
 
-pub list-answers : (s : Sample) (l : List Sample) → listAnswer s l ≡ shows s l
+pub list-answers : (s : Sample) (l : List Sample) → AllAccepted (s ∷ l) → listAnswer s l ≡ shows s l
 unfolding listAnswer
-list-answers s l = rw (list-follows (s ∷ l) .1, list-follows l .1, shear-follows s l 0) (answered s l 0)
+list-answers s l a = rw (list-follows (s ∷ l) a .1, list-follows l (a .1) .1, shear-follows s l 0) (answered s l 0)
 
 pub summed-anew : SummedAnew
 unfolding SummedAnew
-summed-anew s before e = answer-is s before e ∙ sym (list-answers s (accepted before))
+summed-anew s before e = answer-is s before e ∙ sym (list-answers s (accepted before) (e, accepted-all before))
 
 -- ════ What is shown fits its bytes ════
 
@@ -342,13 +361,13 @@ unfolding ranges guidance guidanceBy commandOf
 guide-fits [] h = record { count = lit≤ tt; low = leZ-yes tt; high = leZ-yes tt }
 guide-fits (s ∷ l) h =
     let g = guide-fits l (h .1) in
-    let f = in-range-fields s (h .0) in
+    let f = in-range-fields s (none-after s l (h .0) .0) in
     let comes = eqb (min (redFor (s ∷ l)) 60) 1 in
     let e = guide-next s l in
     record {
-      count = subst (λ (r : Guide). r .count ≤ 600) e (count-le (toGuide (guidance l)) s comes);
-      low = subst (λ (r : Guide). neg 30000 ≤ℤ r .command) e (command-ge (toGuide (guidance l)) s comes (g .low) (inside-bounds (f .pitch-in) .0) (inside-bounds (f .stall-in) .0));
-      high = subst (λ (r : Guide). r .command ≤ℤ pos 27000) e (command-le (toGuide (guidance l)) s comes);
+      count = subst (λ (r : Guide). r .count ≤ 600) e (count-le (toGuide (guidance l)) s (frames s l) comes);
+      low = subst (λ (r : Guide). neg 30000 ≤ℤ r .command) e (command-ge (toGuide (guidance l)) s (frames s l) comes (g .low) (inside-bounds (f .pitch-in) .0) (inside-bounds (f .stall-in) .0));
+      high = subst (λ (r : Guide). r .command ≤ℤ pos 27000) e (command-le (toGuide (guidance l)) s (frames s l) comes);
     }
 
 pub record AnswerFits (a : Answer) : Type 0 where

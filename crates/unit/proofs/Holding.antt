@@ -18,11 +18,12 @@ use Rattle.rounding.proofs.Difference.{any, +D, -D, eqD, ofLe}
 use Rattle.unit.specs.Choice.{same}
 use Rattle.unit.specs.Claims.{HoldsList, EnterHolds, FitsHolds}
 use Rattle.unit.specs.Rules.{lastOf, windowSum}
-use Rattle.unit.specs.Steps.{readFrom, backOf, movedOf, movedSums, sumsOf, entryOf, coreWith, windowsOf, lampsOf, voiceOf, pitchOf, shownBy, acceptOf, freshCore, freshState, sameSums, ringFits}
+use Rattle.unit.specs.Steps.{readFrom, backOf, movedOf, movedSums, sumsOf, framesOf, entryOf, coreAt, pushOf, pushTimes, coreWith, windowsOf, lampsOf, voiceOf, pitchOf, shownBy, acceptOf, freshCore, freshState, entryFits, heldFits, sameSums, ringFits, RingValid}
 use Rattle.unit.specs.declared.Sample.{Sample}
 use Rattle.unit.specs.declared.State.{State}
 use Rattle.unit.specs.declared.windows.Sums.{Sums}
 use Rattle.unit.proofs.Choices.{both-true}
+use Rattle.unit.proofs.RangeLaws.{every-set}
 use Rattle.unit.proofs.RingLaws.{read-length}
 use Rattle.unit.proofs.WindowLaws.{sum-more}
 
@@ -144,9 +145,9 @@ unfolding freshState freshCore readFrom lastOf sumsOf windowSum
 fresh-holds = record { long = refl; on-ring = lit< tt; ring = refl; sums = refl }
 
 -- and with one entry more where that entry comes in
-pub enter-holds : EnterHolds
-unfolding EnterHolds windowsOf coreWith
-enter-holds t e s x h =
+pub push-holds : (t : State) (e : List ℤ) (x : ℤ) → HoldsList t e → HoldsList (pushOf t x) (x ∷ e)
+unfolding pushOf coreAt
+push-holds t e x h =
     let p = t .core .place in
     record {
       long = length-set (t .held) (backOf p) x ∙ h .long;
@@ -155,11 +156,24 @@ enter-holds t e s x h =
       sums = rw (h .ring, h .sums) (sums-move e x);
     }
 
+-- and with it as often as it comes in
+pub times-hold : (n : ℕ) (t : State) (e : List ℤ) (x : ℤ) → HoldsList t e → HoldsList (pushTimes n t x) (replicate n x ++ e)
+unfolding pushTimes
+times-hold zero t e x h = h
+times-hold (suc n) t e x h = push-holds (pushTimes n t x) (replicate n x ++ e) x (times-hold n t e x h)
+
+pub enter-holds : EnterHolds
+unfolding EnterHolds windowsOf coreWith
+enter-holds t e s n x h =
+    let w = times-hold n t e x h in
+    record { long = w .long; on-ring = w .on-ring; ring = w .ring; sums = w .sums }
+
 -- lamps, voice and pitch leave the ring and the sums alone
-pub accept-holds : (t : State) (s : Sample) (e : List ℤ) → HoldsList t e → HoldsList (acceptOf t s .state) (entryOf (t .core) s ∷ e)
+pub accept-holds : (t : State) (s : Sample) (e : List ℤ) → HoldsList t e
+    → HoldsList (acceptOf t s .state) (replicate (framesOf (t .core) s) (entryOf (t .core) s) ++ e)
 unfolding EnterHolds acceptOf shownBy lampsOf voiceOf pitchOf
 accept-holds t s e h =
-    let w = enter-holds t e s (entryOf (t .core) s) h in
+    let w = enter-holds t e s (framesOf (t .core) s) (entryOf (t .core) s) h in
     record { long = w .long; on-ring = w .on-ring; ring = w .ring; sums = w .sums }
 
 -- ════ Refusal 8's test of the ring ════
@@ -220,3 +234,19 @@ ring-holds t e =
 
 pub fits-holds : FitsHolds
 fits-holds = record { holds = ring-holds; fits = holds-ring }
+
+-- ════ A ring that passes 8 ════
+
+-- it does with one entry more that fits, and with that entry as often as it comes in
+pub push-valid : (t : State) (x : ℤ) → entryFits x ≡ true → RingValid t → RingValid (pushOf t x)
+unfolding heldFits pushOf
+push-valid t x f v =
+    record {
+      held-in = every-set entryFits (t .held) (backOf (t .core .place)) x (v .held-in) f;
+      ring-fits = holds-ring (pushOf t x) _ (push-holds t _ x (ring-holds t (v .ring-fits)));
+    }
+
+pub times-valid : (n : ℕ) (t : State) (x : ℤ) → entryFits x ≡ true → RingValid t → RingValid (pushTimes n t x)
+unfolding pushTimes
+times-valid zero t x f v = v
+times-valid (suc n) t x f v = push-valid (pushTimes n t x) x f (times-valid n t x f v)

@@ -13,4 +13,5 @@ pub mod Follow
 pub mod Averages
 pub mod Claims
 pub mod Turned
+pub mod EachOne
 pub mod Figures

@@ -2,14 +2,14 @@
 use mathlib.Core.Bool.{true}
 use mathlib.Core.List.{List}
 use mathlib.Core.Path.{_≡_, refl, _∙_}
-use Prim.Native.Nat.{ℕ, _*_, _≤_}
+use Prim.Native.Nat.{ℕ, _*_, _≤_, _<_}
 use native.Mathlib.Omega.{arith}
 use lib.Dec.{lit≤}
 use lib.IntN.{ℤ, pos, natAbs}
 use lib.ListN.{length}
 use Rattle.unit.specs.Choice.{neg, within, every}
 use Rattle.unit.specs.Rules.{ranges, windowSum}
-use Rattle.unit.specs.Steps.{readFrom, sumsOf, guideOf, passes, SumsWithin, Valid}
+use Rattle.unit.specs.Steps.{readFrom, sumsOf, guideOf, heldFits, passes, SumsWithin, RingValid, Valid}
 use Rattle.unit.specs.declared.State.{State}
 use Rattle.unit.proofs.Holding.{fits-holds}
 use Rattle.unit.proofs.RangeLaws.{every-at, every-turn, bounds, inside-bounds, size-le, passing}
@@ -30,7 +30,7 @@ module _ (e : List ℤ) (long : length e ≡ 200) (fits : every (λ x. within (n
       least : (n : ℕ) → n ≤ 200 → {a : ℕ} → a ≤ n * 50000000 → a ≤ 10000000000
       least n h k = omega arith
 
-  sums-within : SumsWithin (sumsOf e)
+  pub sums-within : SumsWithin (sumsOf e)
   unfolding sumsOf
   sums-within =
       record {
@@ -42,15 +42,26 @@ module _ (e : List ℤ) (long : length e ≡ 200) (fits : every (λ x. within (n
         s100 = window-within 100 (lit≤ tt);
       }
 
+-- what a ring that passes is, as a store and the sums lean on it
+pub record RingHolds (t : State) : Type 0 where
+  pub long : length (t .held) ≡ 200
+  pub on-ring : t .core .place < 200
+  pub sums-le : SumsWithin (t .core .sums)
+
+pub ring-holds : (t : State) → RingValid t → RingHolds t
+unfolding readFrom heldFits
+ring-holds t v =
+    let h = fits-holds .holds t (v .ring-fits) in
+    let place = t .core .place in
+    let all = every-turn _ place (t .held) ∙ v .held-in in
+    record { long = h .long; on-ring = h .on-ring; sums-le = rw (h .sums) (sums-within (readFrom place (t .held)) (read-length (t .held) place (h .long) (h .on-ring)) all) }
+
 pub valid : (t : State) → passes t ≡ true → Valid t
-unfolding ranges guideOf readFrom
+unfolding ranges guideOf heldFits
 valid t e =
     let p = passing t e in
-    let h = fits-holds .holds t (p .ring-fits) in
-    let place = t .core .place in
-    let all = every-turn _ place (t .held) ∙ p .held-in in
     record {
-      ring = record { long = h .long; on-ring = h .on-ring; sums-le = rw (h .sums) (sums-within (readFrom place (t .held)) (read-length (t .held) place (h .long) (h .on-ring)) all) };
+      ring = record { held-in = p .held-in; ring-fits = p .ring-fits };
       along-le = size-le 20000 (inside-bounds (p .along-in)) tt tt;
       guide = record { count-le = p .guidance-le; command-le = size-le 30000 (bounds (p .command-in)) tt tt };
     }

@@ -2,6 +2,7 @@
 use mathlib.Core.Bool.{Bool, true, false, _&&_, _||_, cond}
 use mathlib.Core.List.{List, [], _∷_}
 use Prim.Native.Nat.{ℕ}
+use lib.Dec.{eqb}
 use lib.IntN.{ℤ, pos, negℤ}
 use lib.Signed.{leZ, ltZ}
 
@@ -12,6 +13,10 @@ neg n = negℤ (pos n)
 -- the number of what failed, or what comes later
 abbrev pub firstOf : Bool → ℕ → ℕ → ℕ
 firstOf ok n later = cond ok later n
+
+-- a number that was found, or where it is 0 what comes later
+unfoldable pub orElse : (earlier later : ℕ) → ℕ
+orElse earlier later = cond (eqb earlier 0) later earlier
 
 -- from lo to hi, both ends in
 unfoldable pub within : ℤ → ℤ → ℤ → Bool

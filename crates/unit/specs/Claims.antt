@@ -7,11 +7,11 @@ use mathlib.Core.Path.{_≡_}
 use Prim.Native.Nat.{ℕ, _<_}
 use lib.Dec.{eqb}
 use lib.IntN.{ℤ, pos}
-use lib.ListN.{length}
+use lib.ListN.{length, replicate}
 use lib.Signed.{_≤ℤ_}
 use Rattle.rounding.specs.Fraction.{Fraction, _over_, _+F_, _≤F_, _<F_, AllPositive}
-use Rattle.unit.specs.Rules.{refusal, held, exact, entry, exactEntry, entries, Window, windows, inBand, lastOf, average, redLit, amberLit, voice, guidance, isOn, commandOf}
-use Rattle.unit.specs.Steps.{freshCore, freshState, readFrom, sumsOf, shearOf, entryOf, coreWith, windowsOf, shownBy, answerOf, ringFits, passes, refusedOf, refusalOf, offerOf}
+use Rattle.unit.specs.Rules.{refusalAfter, held, exact, entry, exactEntry, entries, Window, windows, inBand, lastOf, average, redLit, amberLit, voice, guidance, isOn, commandOf}
+use Rattle.unit.specs.Steps.{freshCore, freshState, readFrom, sumsOf, framesOf, shearOf, entryOf, coreWith, windowsOf, shownBy, answerOf, ringFits, passes, refusedOf, refusalOf, offerOf}
 use Rattle.unit.specs.declared.Answer.{Answer}
 use Rattle.unit.specs.declared.Core.{Core}
 use Rattle.unit.specs.declared.Sample.{Sample}
@@ -26,10 +26,11 @@ stateAfter (s ∷ before) = offerOf (stateAfter before) s .state
 unfoldable pub answerTo : Sample → List Sample → Answer
 answerTo s before = offerOf (stateAfter before) s .answer
 
--- "Accepted are exactly the samples that no refusal number fits; 8 never comes here."
+-- "Accepted are exactly the samples that no refusal number fits; 8 never comes here." Whether 21 fits one depends on the accepted one before it
+-- (02, A6).
 unfoldable pub accepted : List Sample → List Sample
 accepted [] = []
-accepted (s ∷ before) = cond (eqb (refusal s) 0) (s ∷ accepted before) (accepted before)
+accepted (s ∷ before) = cond (eqb (refusalAfter s (accepted before)) 0) (s ∷ accepted before) (accepted before)
 
 -- ════ Claims on states and answers ════
 
@@ -56,12 +57,15 @@ shows s before =
 
 -- at each sample: the answer by the rules over the accepted samples alone; or the first number that fits it
 unfoldable pub AnswersByRules : Type 0
-AnswersByRules = (s : Sample) (before : List Sample) → answerTo s before ≡ cond (eqb (refusal s) 0) (shows s (accepted before)) (refusedOf (refusal s))
+AnswersByRules =
+    (s : Sample) (before : List Sample)
+    → answerTo s before
+    ≡ cond (eqb (refusalAfter s (accepted before)) 0) (shows s (accepted before)) (refusedOf (refusalAfter s (accepted before)))
 
 -- "A refused sample is as if never offered": whatever is offered before and after it, the next answer and state are those without it
 unfoldable pub RefusedIsNothing : Type 0
 RefusedIsNothing =
-    (before later : List Sample) (bad next : Sample) → ¬ (refusal bad ≡ 0)
+    (before later : List Sample) (bad next : Sample) → ¬ (refusalAfter bad (accepted before) ≡ 0)
     → offerOf (stateAfter (later ++ bad ∷ before)) next ≡ offerOf (stateAfter (later ++ before)) next
 
 -- ════ A9: a ring with running sums answers as a plain list does ════
@@ -74,9 +78,11 @@ pub record HoldsList (t : State) (entries : List ℤ) : Type 0 where
   pub ring : readFrom (t .core .place) (t .held) ≡ lastOf 200 (pos 0) entries
   pub sums : t .core .sums ≡ sumsOf entries
 
--- an entry that comes in is held, on top of the list that the state held before it
+-- an entry that comes in, as often as the sample stands for frames (02, A6), is held that often, on top of the list that the state held before it
 unfoldable pub EnterHolds : Type 0
-EnterHolds = (t : State) (l : List ℤ) (s : Sample) (entry : ℤ) → HoldsList t l → HoldsList (windowsOf t s entry) (entry ∷ l)
+EnterHolds =
+    (t : State) (l : List ℤ) (s : Sample) (frames : ℕ) (entry : ℤ) → HoldsList t l
+    → HoldsList (windowsOf t s frames entry) (replicate frames entry ++ l)
 
 -- refusal 8 passes the ring of a state exactly where it holds a list: that of its ring, read from its place
 pub record FitsHolds : Type 0 where
@@ -98,8 +104,9 @@ unfoldable pub listAfter : List Sample → ListUnit
 listAfter [] = record { list = []; core = freshCore }
 listAfter (s ∷ before) =
     let u = listAfter before in
-    let list = entryOf (u .core) s ∷ u .list in
-    record { list = list; core = shownBy (coreWith (sumsOf list) 0 s (u .core)) s }
+    let n = framesOf (u .core) s in
+    let list = replicate n (entryOf (u .core) s) ++ u .list in
+    record { list = list; core = shownBy (coreWith (sumsOf list) 0 s (u .core)) s n }
 
 unfoldable pub listAnswer : Sample → List Sample → Answer
 listAnswer s before = answerOf (listAfter (s ∷ before) .core) (shearOf (listAfter before .core) s)
@@ -107,12 +114,12 @@ listAnswer s before = answerOf (listAfter (s ∷ before) .core) (shearOf (listAf
 -- "every answer equals that of windows summed anew from a plain list of the entries, for any accepted samples from a fresh start" (02, A9), in the
 -- plain form; host's Anew.antt has it for every history of calls and for runs
 unfoldable pub SummedAnew : Type 0
-SummedAnew = (s : Sample) (before : List Sample) → refusal s ≡ 0 → answerTo s before ≡ listAnswer s (accepted before)
+SummedAnew = (s : Sample) (before : List Sample) → refusalAfter s (accepted before) ≡ 0 → answerTo s before ≡ listAnswer s (accepted before)
 
 -- a core as it is but for its place
 unfoldable pub placed : ℕ → Core → Core
 placed place c =
-    record { sums = c .sums; along = c .along; mode = c .mode; command = c .command; seen = c .seen; red = c .red; amber = c .amber; voice = c .voice; guidance = c .guidance; place = place }
+    record { sums = c .sums; along = c .along; mode = c .mode; command = c .command; seen = c .seen; red = c .red; amber = c .amber; voice = c .voice; guidance = c .guidance; place = place; frame = c .frame }
 
 -- two states that differ only in how far the ring is turned
 pub record Turned (t u : State) : Type 0 where
@@ -160,7 +167,7 @@ PositiveDivisors l w =
 -- the alert that the last accepted sample's answer showed; 0 where there was none
 unfoldable pub lastAlert : List Sample → ℕ
 lastAlert [] = 0
-lastAlert (s ∷ before) = cond (eqb (refusal s) 0) (answerTo s before .alert) (lastAlert before)
+lastAlert (s ∷ before) = cond (eqb (refusalAfter s (accepted before)) 0) (answerTo s before .alert) (lastAlert before)
 
 -- "For every list of samples, offered one after another from a fresh start, whatever they hold and with refused ones among them, this is so at each
 -- accepted one": at the accepted sample s, by a table of windows, with the accepted samples before it. `wasRed` is whether red was lit at the one
@@ -180,5 +187,5 @@ pub record Demand3At (table : List Window) (s : Sample) (before : List Sample) (
 -- at every accepted sample of every list: red is alert 2, and the command is shown where guidance is 1
 unfoldable pub Demand3Lone : Type 0
 Demand3Lone =
-    (before : List Sample) (s : Sample) → refusal s ≡ 0
+    (before : List Sample) (s : Sample) → refusalAfter s (accepted before) ≡ 0
     → Demand3At windows s (accepted before) (eqb (lastAlert before) 2) (eqb (answerTo s before .alert) 2) (eqb (answerTo s before .guidance) 1) (answerTo s before .command)

@@ -3,14 +3,15 @@
 use mathlib.Core.Bool.{Bool, true, false, not, _&&_, _||_, cond}
 use mathlib.Core.List.{List, [], _∷_, _++_}
 use mathlib.Core.Path.{_≡_}
-use Prim.Native.Nat.{ℕ, _+_, _-_, _≤_, _<_}
+use Prim.Native.Nat.{ℕ, zero, suc, _+_, _-_, _≤_, _<_}
 use lib.Dec.{ltb, leb, eqb}
 use lib.IntN.{ℤ, pos, negℤ, natAbs, _+ℤ_, _-ℤ_}
 use lib.ListN.{length, getD, set, take, drop, replicate}
 use lib.Signed.{leZ, _≤ℤ_}
+use Rattle.frames.specs.Frames.{elapsed}
 use Rattle.rounding.specs.Cut.{cut}
 use Rattle.unit.specs.Choice.{neg, firstOf, within, same, smaller, every}
-use Rattle.unit.specs.Rules.{ranges, inside, refusal, band, heldShear, entryLimit, Window, windows, windowSum, limit, cycle, cap, towards, counted}
+use Rattle.unit.specs.Rules.{ranges, inside, refusal, thenFrames, band, heldShear, entryLimit, Window, windows, windowSum, limit, cycle, cap, towards, counted}
 use Rattle.unit.specs.declared.Answer.{Answer}
 use Rattle.unit.specs.declared.Core.{Core}
 use Rattle.unit.specs.declared.Offered.{Offered}
@@ -37,6 +38,7 @@ freshCore =
       voice = 0;
       guidance = 0;
       place = 0;
+      frame = 0;
     }
 
 unfoldable pub freshState : State
@@ -99,37 +101,56 @@ someReached up (w ∷ table) (sum ∷ sums) = reached up w sum || someReached up
 unfoldable pub metOf : Bool → Sums → Bool
 metOf up s = someReached up windows (sumList s)
 
+-- the frames that a sample stands for: those elapsed since the last accepted one's number; one where there was none (02, A6)
+unfoldable pub framesOf : Core → Sample → ℕ
+framesOf c s = cond (ltb 0 (c .seen)) (elapsed (s .frame) (c .frame)) 1
+
 unfoldable pub shearOf : Core → Sample → ℤ
-shearOf c s = heldShear (cond (ltb 0 (c .seen)) (s .along -ℤ c .along) (pos 0)) (s .vertical) (s .airspeed)
+shearOf c s = heldShear (cond (ltb 0 (c .seen)) (s .along -ℤ c .along) (pos 0)) (framesOf c s) (s .vertical) (s .airspeed)
 
 -- what the sample enters into the windows: its held shear, cut
 unfoldable pub entryOf : Core → Sample → ℤ
 entryOf c s = cut entryLimit (shearOf c s)
 
--- the core with new sums, a new place and the sample's along wind
+-- the core with new sums and a new place
+unfoldable pub coreAt : Sums → ℕ → Core → Core
+coreAt sums place c =
+    record { sums = sums; along = c .along; mode = c .mode; command = c .command; seen = c .seen; red = c .red; amber = c .amber; voice = c .voice; guidance = c .guidance; place = place; frame = c .frame }
+
+-- an entry stored one place back, and every sum moved; and the same entry so many times
+unfoldable pub pushOf : State → ℤ → State
+pushOf t entry =
+    let c = t .core in
+    beside (set (t .held) (backOf (c .place)) entry) (coreAt (movedSums (readFrom (c .place) (t .held)) entry (c .sums)) (backOf (c .place)) c)
+
+unfoldable pub pushTimes : ℕ → State → ℤ → State
+pushTimes zero t entry = t
+pushTimes (suc n) t entry = pushOf (pushTimes n t entry) entry
+
+-- the core with new sums, a new place, and the sample's along wind and number
 unfoldable pub coreWith : Sums → ℕ → Sample → Core → Core
 coreWith sums place s c =
-    record { sums = sums; along = s .along; mode = c .mode; command = c .command; seen = c .seen; red = c .red; amber = c .amber; voice = c .voice; guidance = c .guidance; place = place }
+    record { sums = sums; along = s .along; mode = c .mode; command = c .command; seen = c .seen; red = c .red; amber = c .amber; voice = c .voice; guidance = c .guidance; place = place; frame = s .frame }
 
--- the entry stored one place back, and every sum moved
-unfoldable pub windowsOf : State → Sample → ℤ → State
-windowsOf t s entry =
-    let c = t .core in
-    beside (set (t .held) (backOf (c .place)) entry) (coreWith (movedSums (readFrom (c .place) (t .held)) entry (c .sums)) (backOf (c .place)) s c)
+-- the entry has come in as many times as the sample stands for frames
+unfoldable pub windowsOf : State → Sample → (frames : ℕ) → ℤ → State
+windowsOf t s frames entry =
+    let u = pushTimes frames t entry in
+    beside (u .held) (coreWith (u .core .sums) (u .core .place) s (t .core))
 
 -- ════ Lamps ════
 
--- a lamp's counter, which stops at 60
-unfoldable pub lampNext : ℕ → Bool → ℕ
-lampNext n on = cond (eqb n 0) (cond on 1 0) (cond (ltb n 60) (n + 1) (cond on 60 0))
+-- a lamp's counter of frames, which stops at 60
+unfoldable pub lampNext : ℕ → (frames : ℕ) → Bool → ℕ
+lampNext n frames on = cond (eqb n 0) (cond on 1 0) (cond (leb (n + frames) 60) (n + frames) (cond on 60 0))
 
 unfoldable pub unlessLit : ℕ → ℕ → ℕ
 unlessLit red amber = cond (ltb 0 red) 0 amber
 
-unfoldable pub lampsOf : Core → ℤ → Core
-lampsOf c height =
-    let red = lampNext (c .red) (inside band height && metOf true (c .sums)) in
-    let amber = lampNext (c .amber) (inside band height && metOf false (c .sums)) in
+unfoldable pub lampsOf : Core → ℤ → (frames : ℕ) → Core
+lampsOf c height frames =
+    let red = lampNext (c .red) frames (inside band height && metOf true (c .sums)) in
+    let amber = lampNext (c .amber) frames (inside band height && metOf false (c .sums)) in
     record {
       sums = c .sums;
       along = c .along;
@@ -141,6 +162,7 @@ lampsOf c height =
       voice = c .voice;
       guidance = c .guidance;
       place = c .place;
+      frame = c .frame;
     }
 
 -- ════ Voice ════
@@ -151,14 +173,14 @@ changedOf seen last mode = cond (eqb seen 0) false (not (same mode last))
 unfoldable pub keptOf : ℕ → Bool → ℕ
 keptOf n change = cond change 0 n
 
--- the voice's counter, which stops at 73
-unfoldable pub voiceNext : ℕ → Bool → ℕ
-voiceNext n comes = cond (eqb n 0) (cond comes 1 0) (cond (ltb n 73) (n + 1) 73)
+-- the voice's counter of frames, which stops at 73
+unfoldable pub voiceNext : ℕ → (frames : ℕ) → Bool → ℕ
+voiceNext n frames comes = cond (eqb n 0) (cond comes 1 0) (cond (leb (n + frames) 72) (n + frames) 73)
 
 -- a lamp that comes on has its counter at 1
-unfoldable pub voiceOf : Core → Sample → Core
-voiceOf c s =
-    let voice = voiceNext (keptOf (c .voice) (changedOf (c .seen) (c .mode) (s .mode))) (eqb (c .red) 1) in
+unfoldable pub voiceOf : Core → Sample → (frames : ℕ) → Core
+voiceOf c s frames =
+    let voice = voiceNext (keptOf (c .voice) (changedOf (c .seen) (c .mode) (s .mode))) frames (eqb (c .red) 1) in
     record {
       sums = c .sums;
       along = c .along;
@@ -170,6 +192,7 @@ voiceOf c s =
       voice = voice;
       guidance = c .guidance;
       place = c .place;
+      frame = c .frame;
     }
 
 -- ════ Escape pitch ════
@@ -178,24 +201,24 @@ unfoldable pub noGuide : Guide
 noGuide = record { count = 0; command = pos 0 }
 
 unfoldable pub startedOf : Sample → Guide
-startedOf s = record { count = counted s 0 + 1; command = smaller (s .pitch) (cap s) }
+startedOf s = record { count = counted s 1 0 + 1; command = smaller (s .pitch) (cap s) }
 
-unfoldable pub continuedOf : Guide → Sample → Guide
-continuedOf g s =
-    let n = counted s (g .count - 1) in
-    cond (leb 600 n) noGuide (record { count = n + 1; command = smaller (towards (g .command)) (cap s) })
+unfoldable pub continuedOf : Guide → Sample → (frames : ℕ) → Guide
+continuedOf g s frames =
+    let n = counted s frames (g .count - 1) in
+    cond (leb 600 n) noGuide (record { count = n + 1; command = smaller (towards frames (g .command)) (cap s) })
 
-unfoldable pub guideNext : Guide → Sample → Bool → Guide
-guideNext g s comes =
+unfoldable pub guideNext : Guide → Sample → (frames : ℕ) → Bool → Guide
+guideNext g s frames comes =
     cond (same (s .deselect) (pos 1)) noGuide
-    (cond (eqb (g .count) 0) (cond comes (startedOf s) noGuide) (continuedOf g s))
+    (cond (eqb (g .count) 0) (cond comes (startedOf s) noGuide) (continuedOf g s frames))
 
 unfoldable pub guideOf : Core → Guide
 guideOf c = record { count = c .guidance; command = c .command }
 
-unfoldable pub pitchOf : Core → Sample → Core
-pitchOf c s =
-    let g = guideNext (guideOf c) s (eqb (c .red) 1) in
+unfoldable pub pitchOf : Core → Sample → (frames : ℕ) → Core
+pitchOf c s frames =
+    let g = guideNext (guideOf c) s frames (eqb (c .red) 1) in
     record {
       sums = c .sums;
       along = c .along;
@@ -207,6 +230,7 @@ pitchOf c s =
       voice = c .voice;
       guidance = g .count;
       place = c .place;
+      frame = c .frame;
     }
 
 -- ════ The answer and the step ════
@@ -225,22 +249,26 @@ unfoldable pub refusedOf : ℕ → Answer
 refusedOf n = record { refusal = n; alert = 0; voice = 0; guidance = 0; command = pos 0; shear = pos 0 }
 
 -- what follows once the windows are filled: the lamps, the voice and the pitch, one after another
-unfoldable pub shownBy : Core → Sample → Core
-shownBy c s = pitchOf (voiceOf (lampsOf c (s .height)) s) s
+unfoldable pub shownBy : Core → Sample → (frames : ℕ) → Core
+shownBy c s frames = pitchOf (voiceOf (lampsOf c (s .height) frames) s frames) s frames
 
 unfoldable pub acceptOf : State → Sample → Offered
 acceptOf t s =
-    let filled = windowsOf t s (entryOf (t .core) s) in
-    let end = shownBy (filled .core) s in
+    let n = framesOf (t .core) s in
+    let filled = windowsOf t s n (entryOf (t .core) s) in
+    let end = shownBy (filled .core) s n in
     record { answer = answerOf end (shearOf (t .core) s); state = beside (filled .held) end }
 
 -- ════ Refusal 8 ════
 
 -- "a held shear beyond 50,000,000 either way"
-unfoldable pub heldFits : List ℤ → Bool
-heldFits held = every (λ x. within (neg 50000000) x (pos 50000000)) held
+abbrev pub entryFits : ℤ → Bool
+entryFits x = within (neg 50000000) x (pos 50000000)
 
--- "a counter above 600"
+unfoldable pub heldFits : List ℤ → Bool
+heldFits held = every entryFits held
+
+-- "a counter above 600"; "the kept frame number is no counter in 8" (02, A6)
 unfoldable pub countersFit : Core → Bool
 countersFit c = leb (c .seen) 600 && leb (c .red) 600 && leb (c .amber) 600 && leb (c .voice) 600 && leb (c .guidance) 600
 
@@ -259,9 +287,13 @@ ringFits t = eqb (length (t .held)) 200 && ltb (t .core .place) 200 && sameSums 
 unfoldable pub passes : State → Bool
 passes t = heldFits (t .held) && countersFit (t .core) && lastFits (t .core) && ringFits t
 
--- "A lone sample meets 8, then 11 to 20."
+-- 11 to 20, then 21
+unfoldable pub refusalBy : Core → Sample → ℕ
+refusalBy c s = thenFrames (refusal s) (framesOf c s)
+
+-- "A lone sample meets 8, then 11 to 20"; "and meets 21" (02, A6)
 unfoldable pub refusalOf : State → Sample → ℕ
-refusalOf t s = firstOf (passes t) 8 (refusal s)
+refusalOf t s = firstOf (passes t) 8 (refusalBy (t .core) s)
 
 -- "A refused sample is as if never offered."
 unfoldable pub offerOf : State → Sample → Offered
@@ -283,11 +315,10 @@ pub record SumsWithin (s : Sums) : Type 0 where
   pub s120 : natAbs (s .s120) ≤ 10000000000
   pub s100 : natAbs (s .s100) ≤ 10000000000
 
--- a ring that an entry may come into
+-- a ring that passes 8, which an entry may come into
 pub record RingValid (t : State) : Type 0 where
-  pub long : length (t .held) ≡ 200
-  pub on-ring : t .core .place < 200
-  pub sums-le : SumsWithin (t .core .sums)
+  pub held-in : heldFits (t .held) ≡ true
+  pub ring-fits : ringFits t ≡ true
 
 pub record GuideValid (g : Guide) : Type 0 where
   pub count-le : g .count ≤ 600

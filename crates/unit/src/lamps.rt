@@ -9,15 +9,16 @@ pub(crate) fn both(a: bool, b: bool) -> bool
     if a { b } else { false }
 }
 
-// A lamp's counter after a sample at which its condition holds or not. It stops at 60, from where only the condition keeps it lit.
-pub(crate) fn next(count: u16, on: bool) -> u16
-    ensures { λ r. ⌜ r ≡ lampNext count on ⌝ }
+// A lamp's counter after a sample of n frames at which its condition holds or not. It stops at 60, from where only the condition keeps it lit.
+pub(crate) fn next(count: u16, n: u16, on: bool) -> u16
+    ensures { λ r. ⌜ r ≡ lampNext count n on ⌝ }
 {
     if count == 0 {
         return if on { 1 } else { 0 };
     }
-    if count < 60 {
-        return count + 1;
+    let sum = count as u32 + n as u32;
+    if sum <= 60 {
+        return sum as u16;
     }
     if on { 60 } else { 0 }
 }

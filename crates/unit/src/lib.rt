@@ -1,9 +1,11 @@
 // The windshear unit, a state in and a state out (01, "A sample" to "Escape pitch").
 ghost use mathlib.Core.Path.{_≡_};
+ghost use mathlib.Core.Bool.{true};
 ghost use Prim.Native.Nat.{_≤_};
 ghost use lib.IntN.{natAbs};
+ghost use Rattle.frames.specs.Frames.{framesFit};
 ghost use Rattle.unit.specs.Rules.{refusal};
-ghost use Rattle.unit.specs.Steps.{beside, freshCore, freshState, RingValid, GuideValid, Valid, InRange, shearOf, windowsOf, lampsOf, voiceOf, guideOf, pitchOf, answerOf, acceptOf, refusalOf, PlainPromise};
+ghost use Rattle.unit.specs.Steps.{beside, freshCore, freshState, entryFits, RingValid, GuideValid, Valid, InRange, framesOf, shearOf, pushOf, pushTimes, windowsOf, lampsOf, voiceOf, guideOf, pitchOf, answerOf, acceptOf, refusalOf, PlainPromise};
 
 mod lamps;
 mod pitch;
@@ -14,7 +16,8 @@ pub mod windows;
 
 use crate::windows::Sums;
 
-// One of the twenty samples of a second, in the units of 01's table. A field holds any value that a caller may send.
+// One sample, in the units of 01's table; it stands for one or more of the twenty frames of a second (02, A6). A field holds any value that a caller
+// may send.
 #[repr(C)]
 pub struct Sample {
     pub along: i32,
@@ -27,6 +30,8 @@ pub struct Sample {
     pub vs1: i32,
     pub mode: i32,
     pub deselect: i32,
+    // the host's number of this frame, of 16 bits that go round (02, A6)
+    pub frame: u16,
 }
 
 // What the unit keeps from sample to sample, beside the ring's entries. A field may hold any value; refusal 8 has the limits.
@@ -41,15 +46,17 @@ pub struct Core {
     pub command: i32,
     // 0 while no sample has been accepted, else 1
     pub seen: u16,
-    // for how many samples the lamp has been lit, up to 60; 0 is dark
+    // for how many frames the lamp has been lit, up to 60; 0 is dark
     pub red: u16,
     pub amber: u16,
-    // for how many samples the voice has been given since the last mode change, up to 73; 0 is not given
+    // for how many frames the voice has been given since the last mode change, up to 73; 0 is not given
     pub voice: u16,
-    // 0 is off; else one more than the samples in a row that have counted towards the end
+    // 0 is off; else one more than the frames in a row that have counted towards the end
     pub guidance: u16,
     // where the newest entry stands in the ring
     pub place: u16,
+    // the last accepted sample's frame number; 0 while there is none
+    pub frame: u16,
 }
 
 // The unit's state: the last two hundred entries (held shears, cut) as a ring, the newest at the core's place and each older one a place on, round;
@@ -60,7 +67,7 @@ pub struct State {
     pub core: Core,
 }
 
-// What a sample is answered. `refusal` is 0 where it was accepted; else it is 01's number, and the other fields are 0.
+// What a sample is answered. `refusal` is 0 where it was accepted; else it is the first number that fits, and the other fields are 0.
 #[repr(C)]
 pub struct Answer {
     pub refusal: u16,
@@ -118,66 +125,101 @@ impl Core {
             voice: 0,
             guidance: 0,
             place: 0,
+            frame: 0,
         }
     }
 
-    // The held shear of a sample, from the change of along wind since the last accepted one.
-    fn shear(self, s: Sample) -> i32
-        requires { ⌜ (natAbs (self .along) ≤ 20000) × InRange s ⌝ }
+    // The frames that a sample stands for: those elapsed since the last accepted one; one at the first.
+    pub(crate) fn frames(self, s: Sample) -> u16
+        ensures { λ r. ⌜ r ≡ framesOf self s ⌝ }
+    {
+        if 0 < self.seen {
+            return frames::elapsed(s.frame, self.frame);
+        }
+        1
+    }
+
+    // The held shear of a sample that stands for n frames, from the change of along wind since the last accepted one.
+    fn shear(self, s: Sample, n: u16) -> i32
+        requires { ⌜ (natAbs (self .along) ≤ 20000) × InRange s × (n ≡ framesOf self s) × (framesFit n ≡ true) ⌝ }
         ensures { λ r. ⌜ (r ≡ shearOf self s) × (natAbs r ≤ 50000000) ⌝ }
     {
         let v = s.vertical;
         let a = s.airspeed;
         if 0 < self.seen {
-            return shear::held(s.along - self.along, v, a);
+            return shear::held(s.along - self.along, n, v, a);
         }
-        shear::held(0, v, a)
+        shear::held(0, n, v, a)
     }
 
-    // "Outside the band the windows still fill": by what the sample enters.
-    fn entered(mut self, held: &mut [i32; 200], s: Sample, entry: i32) -> Core
+    // An entry that comes into the ring.
+    fn pushed(mut self, held: &mut [i32; 200], entry: i32) -> Core
         requires { ⌜ RingValid (beside (now held) self) ⌝ }
-        ensures { λ r. ⌜ beside (now (held .exit)) r ≡ windowsOf (beside (now (held .entry)) self) s entry ⌝ }
+        ensures { λ r. ⌜ beside (now (held .exit)) r ≡ pushOf (beside (now (held .entry)) self) entry ⌝ }
     {
         let p = self.place as usize;
         self.sums = windows::enter(self.sums, p, held, entry);
         self.place = windows::back(p) as u16;
-        self.along = s.along;
         self
     }
 
-    fn lamps(mut self, height: i32) -> Core
-        ensures { λ r. ⌜ r ≡ lampsOf self height ⌝ }
+    // The same entry n times.
+    fn pushed_times(self, held: &mut [i32; 200], entry: i32, n: u16) -> Core
+        requires { ⌜ RingValid (beside (now held) self) × (entryFits entry ≡ true) ⌝ }
+        ensures { λ r. ⌜ beside (now (held .exit)) r ≡ pushTimes n (beside (now (held .entry)) self) entry ⌝ }
+    {
+        let mut c = self;
+        let mut i: u16 = 0;
+        while i < n {
+            c = c.pushed(held, entry);
+            i += 1;
+        }
+        c
+    }
+
+    // "Outside the band the windows still fill": by what the sample enters, once for each of its n frames.
+    fn entered(self, held: &mut [i32; 200], s: Sample, n: u16, entry: i32) -> Core
+        requires { ⌜ RingValid (beside (now held) self) × (entryFits entry ≡ true) ⌝ }
+        ensures { λ r. ⌜ beside (now (held .exit)) r ≡ windowsOf (beside (now (held .entry)) self) s n entry ⌝ }
+    {
+        let mut c = self.pushed_times(held, entry, n);
+        c.along = s.along;
+        c.frame = s.frame;
+        c
+    }
+
+    fn lamps(mut self, height: i32, n: u16) -> Core
+        ensures { λ r. ⌜ r ≡ lampsOf self height n ⌝ }
     {
         let sums = self.sums;
         let band = ranges::between(50, height, 1000);
         let up = lamps::both(band, sums.met(true));
         let down = lamps::both(band, sums.met(false));
-        let red = lamps::next(self.red, up);
+        let red = lamps::next(self.red, n, up);
         self.red = red;
-        self.amber = lamps::unless(red, lamps::next(self.amber, down));
+        self.amber = lamps::unless(red, lamps::next(self.amber, n, down));
         self
     }
 
-    fn voice(mut self, s: Sample) -> Core
-        ensures { λ r. ⌜ r ≡ voiceOf self s ⌝ }
+    fn voice(mut self, s: Sample, n: u16) -> Core
+        ensures { λ r. ⌜ r ≡ voiceOf self s n ⌝ }
     {
         let change = voice::changed(self.seen, self.mode, s.mode);
-        self.voice = voice::next(voice::kept(self.voice, change), self.red == 1);
+        self.voice = voice::next(voice::kept(self.voice, change), n, self.red == 1);
         self.mode = s.mode;
         self.seen = 1;
         self
     }
 
-    fn pitch(mut self, s: Sample) -> Core
-        requires { ⌜ GuideValid (guideOf self) × InRange s ⌝ }
-        ensures { λ r. ⌜ r ≡ pitchOf self s ⌝ }
+    fn pitch(mut self, s: Sample, n: u16) -> Core
+        requires { ⌜ GuideValid (guideOf self) × InRange s × (n ≤ 20) ⌝ }
+        ensures { λ r. ⌜ r ≡ pitchOf self s n ⌝ }
     {
         let g = pitch::Guide {
             count: self.guidance,
             command: self.command,
         };
-        let next = g.next(s, self.red == 1);
+        let next = g.next(s, n, self.red == 1);
         self.guidance = next.count;
         self.command = next.command;
         self
@@ -201,15 +243,34 @@ impl Core {
         requires { ⌜ refusalOf (beside (now held) self) s ≡ 0 ⌝ }
         ensures { λ r. ⌜ PlainPromise (beside (now (held .entry)) self) s (r .answer) (beside (now (held .exit)) (r .core)) ⌝ }
     {
-        let x = self.shear(s);
+        let n = self.frames(s);
+        let x = self.shear(s, n);
         let entry = windows::entry(x);
-        let filled = self.entered(held, s, entry);
-        let lit = filled.lamps(s.height);
-        let spoken = lit.voice(s);
-        let end = spoken.pitch(s);
+        let filled = self.entered(held, s, n, entry);
+        let lit = filled.lamps(s.height, n);
+        let spoken = lit.voice(s, n);
+        let end = spoken.pitch(s, n);
         Stepped {
             answer: end.answer(x),
             core: end,
+        }
+    }
+
+    // The same for a listing's loop: a function that one loop calls becomes a part of it, which is faster.
+    pub fn listed(self, held: &mut [i32; 200], s: Sample) -> Stepped
+        requires { ⌜ refusalOf (beside (now held) self) s ≡ 0 ⌝ }
+        ensures { λ r. ⌜ PlainPromise (beside (now (held .entry)) self) s (r .answer) (beside (now (held .exit)) (r .core)) ⌝ }
+    {
+        let m = self.frames(s);
+        let y = self.shear(s, m);
+        let cut = windows::entry(y);
+        let full = self.entered(held, s, m, cut);
+        let shown = full.lamps(s.height, m);
+        let heard = shown.voice(s, m);
+        let last = heard.pitch(s, m);
+        Stepped {
+            answer: last.answer(y),
+            core: last,
         }
     }
 }
@@ -226,54 +287,55 @@ impl State {
     }
 
     // The windows filled by what the sample enters.
-    fn windows(mut self, s: Sample, entry: i32) -> State
-        requires { ⌜ RingValid self ⌝ }
-        ensures { λ r. ⌜ r ≡ windowsOf self s entry ⌝ }
+    fn windows(mut self, s: Sample, n: u16, entry: i32) -> State
+        requires { ⌜ RingValid self × (entryFits entry ≡ true) ⌝ }
+        ensures { λ r. ⌜ r ≡ windowsOf self s n entry ⌝ }
     {
         let mut held = self.held;
         let core = self.core;
-        self.core = core.entered(&mut held, s, entry);
+        self.core = core.entered(&mut held, s, n, entry);
         self.held = held;
         self
     }
 
-    fn lamps(mut self, height: i32) -> State
-        ensures { λ r. ⌜ r ≡ beside (self .held) (lampsOf (self .core) height) ⌝ }
+    fn lamps(mut self, height: i32, n: u16) -> State
+        ensures { λ r. ⌜ r ≡ beside (self .held) (lampsOf (self .core) height n) ⌝ }
     {
         let core = self.core;
-        self.core = core.lamps(height);
+        self.core = core.lamps(height, n);
         self
     }
 
-    fn voice(mut self, s: Sample) -> State
-        ensures { λ r. ⌜ r ≡ beside (self .held) (voiceOf (self .core) s) ⌝ }
+    fn voice(mut self, s: Sample, n: u16) -> State
+        ensures { λ r. ⌜ r ≡ beside (self .held) (voiceOf (self .core) s n) ⌝ }
     {
         let core = self.core;
-        self.core = core.voice(s);
+        self.core = core.voice(s, n);
         self
     }
 
-    fn pitch(mut self, s: Sample) -> State
-        requires { ⌜ GuideValid (guideOf (self .core)) × InRange s ⌝ }
-        ensures { λ r. ⌜ r ≡ beside (self .held) (pitchOf (self .core) s) ⌝ }
+    fn pitch(mut self, s: Sample, n: u16) -> State
+        requires { ⌜ GuideValid (guideOf (self .core)) × InRange s × (n ≤ 20) ⌝ }
+        ensures { λ r. ⌜ r ≡ beside (self .held) (pitchOf (self .core) s n) ⌝ }
     {
         let core = self.core;
-        self.core = core.pitch(s);
+        self.core = core.pitch(s, n);
         self
     }
 
     // An accepted sample.
     fn accept(self, s: Sample) -> Offered
-        requires { ⌜ Valid self × InRange s ⌝ }
+        requires { ⌜ Valid self × InRange s × (framesFit (framesOf (self .core) s) ≡ true) ⌝ }
         ensures { λ r. ⌜ r ≡ acceptOf self s ⌝ }
     {
         let before = self.core;
-        let x = before.shear(s);
+        let n = before.frames(s);
+        let x = before.shear(s, n);
         let entry = windows::entry(x);
-        let full = self.windows(s, entry);
-        let lit = full.lamps(s.height);
-        let spoken = lit.voice(s);
-        let end = spoken.pitch(s);
+        let full = self.windows(s, n, entry);
+        let lit = full.lamps(s.height, n);
+        let spoken = lit.voice(s, n);
+        let end = spoken.pitch(s, n);
         let core = end.core;
         Offered {
             answer: core.answer(x),
@@ -281,13 +343,13 @@ impl State {
         }
     }
 
-    // A sample offered in the plain form: refused by the first number that fits, 8 and then 11 to 20, with the state handed back as it
+    // A sample offered in the plain form: refused by the first number that fits, 8 and then 11 to 21, with the state handed back as it
     // was; or answered, with the next state.
     pub fn offer(self, s: Sample) -> Offered
         ensures { λ r. ⌜ PlainPromise self s (r .answer) (r .state) ⌝ }
     {
         let passed = ranges::passes(self);
-        let later = ranges::refusal(s);
+        let later = ranges::refusal_by(self.core, s);
         let n = ranges::first_of(passed, 8, later);
         if n == 0 {
             return self.accept(s);

@@ -8,7 +8,7 @@ ghost use Rattle.unit.specs.Rules.{cap, towards, climbing, counted};
 ghost use Rattle.unit.specs.Steps.{InRange, GuideValid, noGuide, startedOf, continuedOf, guideNext, shownOf};
 use crate::Sample;
 
-// Guidance: count is 0 while it is off, else one more than the samples in a row that have counted towards its end.
+// Guidance: count is 0 while it is off, else one more than the frames in a row that have counted towards its end.
 pub(crate) struct Guide {
     pub count: u16,
     pub command: i32,
@@ -38,14 +38,16 @@ fn cap(s: Sample) -> i32
     smaller(27000, s.stall)
 }
 
-fn towards(c: i32) -> i32
-    requires { ⌜ natAbs c ≤ 30000 ⌝ }
-    ensures { λ r. ⌜ r ≡ towards c ⌝ }
+// 75 for each of n frames.
+fn towards(n: u16, c: i32) -> i32
+    requires { ⌜ (n ≤ 20) × (natAbs c ≤ 30000) ⌝ }
+    ensures { λ r. ⌜ r ≡ towards n c ⌝ }
 {
+    let most = 75 * n as i32;
     if c < 15000 {
-        return smaller(15000, c + 75);
+        return smaller(15000, c + most);
     }
-    larger(15000, c - 75)
+    larger(15000, c - most)
 }
 
 fn climbing(s: Sample) -> bool
@@ -57,11 +59,12 @@ fn climbing(s: Sample) -> bool
     0 < s.climb && need < have
 }
 
-fn counted(s: Sample, n: u16) -> u16
-    requires { ⌜ InRange s × (n ≤ 600) ⌝ }
-    ensures { λ r. ⌜ r ≡ counted s n ⌝ }
+// The count after a sample that adds so many frames where it counts.
+fn counted(s: Sample, added: u16, count: u16) -> u16
+    requires { ⌜ InRange s × (added ≤ 20) × (count ≤ 600) ⌝ }
+    ensures { λ r. ⌜ r ≡ counted s added count ⌝ }
 {
-    if climbing(s) { n + 1 } else { 0 }
+    if climbing(s) { count + added } else { 0 }
 }
 
 fn off() -> Guide
@@ -77,7 +80,7 @@ fn started(s: Sample) -> Guide
     requires { ⌜ InRange s ⌝ }
     ensures { λ r. ⌜ r ≡ startedOf s ⌝ }
 {
-    let n = counted(s, 0);
+    let n = counted(s, 1, 0);
     let top = cap(s);
     Guide {
         count: n + 1,
@@ -86,25 +89,25 @@ fn started(s: Sample) -> Guide
 }
 
 impl Guide {
-    fn continued(self, s: Sample) -> Guide
-        requires { ⌜ GuideValid self × InRange s × (0 < self .count) ⌝ }
-        ensures { λ r. ⌜ r ≡ continuedOf self s ⌝ }
+    fn continued(self, s: Sample, n: u16) -> Guide
+        requires { ⌜ GuideValid self × InRange s × (n ≤ 20) × (0 < self .count) ⌝ }
+        ensures { λ r. ⌜ r ≡ continuedOf self s n ⌝ }
     {
-        let n = counted(s, self.count - 1);
-        if 600 <= n {
+        let count = counted(s, n, self.count - 1);
+        if 600 <= count {
             return off();
         }
         let top = cap(s);
         Guide {
-            count: n + 1,
-            command: smaller(towards(self.command), top),
+            count: count + 1,
+            command: smaller(towards(n, self.command), top),
         }
     }
 
     // "Guidance ends at a sample with deselect, which beats a start"; "an end beats a coming-on".
-    pub(crate) fn next(self, s: Sample, comes: bool) -> Guide
-        requires { ⌜ GuideValid self × InRange s ⌝ }
-        ensures { λ r. ⌜ r ≡ guideNext self s comes ⌝ }
+    pub(crate) fn next(self, s: Sample, n: u16, comes: bool) -> Guide
+        requires { ⌜ GuideValid self × InRange s × (n ≤ 20) ⌝ }
+        ensures { λ r. ⌜ r ≡ guideNext self s n comes ⌝ }
     {
         if equal(s.deselect, 1) {
             return off();
@@ -115,7 +118,7 @@ impl Guide {
             }
             return off();
         }
-        self.continued(s)
+        self.continued(s, n)
     }
 }
 

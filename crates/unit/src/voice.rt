@@ -23,17 +23,18 @@ pub(crate) fn kept(count: u16, change: bool) -> u16
     if change { 0 } else { count }
 }
 
-// The counter after a sample at which red comes on or not. It stops at 73, where the three cycles are over.
-pub(crate) fn next(count: u16, comes: bool) -> u16
-    ensures { λ r. ⌜ r ≡ voiceNext count comes ⌝ }
+// The counter after a sample of n frames at which red comes on or not. It stops at 73, where the three cycles are over.
+pub(crate) fn next(count: u16, n: u16, comes: bool) -> u16
+    ensures { λ r. ⌜ r ≡ voiceNext count n comes ⌝ }
 {
     if count == 0 {
         return if comes { 1 } else { 0 };
     }
-    if count < 73 { count + 1 } else { 73 }
+    let sum = count as u32 + n as u32;
+    if sum <= 72 { sum as u16 } else { 73 }
 }
 
-// Which of the three cycles of 24 samples it is in; 0 for none.
+// Which of the three cycles of 24 frames it is in; 0 for none.
 pub(crate) fn cycle(count: u16) -> u16
     ensures { λ r. ⌜ r ≡ cycle count ⌝ }
 {

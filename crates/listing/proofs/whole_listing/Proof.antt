@@ -14,18 +14,19 @@ use Rattle.runfile.specs.Run.{testedOf}
 use Rattle.catalog.specs.Listing.{listingOf, roomOf, listedSize, listedIn}
 use Rattle.catalog.proofs.ListingLaws.{room-good, room-refused, size-fits}
 use Rattle.text.specs.Text.{written}
-use Rattle.format.specs.Header.{mostRecords}
+use Rattle.format.specs.Header.{versionIn}
+use Rattle.format.proofs.Versions.{most-le}
 use Rattle.runfile.proofs.RunLaws.{accepted-file}
 use Rattle.listing.proofs.whole_listing.Statement.{statement}
 use Rattle.listing.proofs.whole_listing.Tie as tie
 
-most-room : (file : List ℕ) → roomOf file ≤ 64 * (mostRecords + 2)
+most-room : (file : List ℕ) → roomOf file ≤ 64 * (2600 + 2)
 most-room file = go (eqb (testedOf file .refusal) 0) refl
   where
-    go : (none : Bool) → eqb (testedOf file .refusal) 0 ≡ none → roomOf file ≤ 64 * (mostRecords + 2)
+    go : (none : Bool) → eqb (testedOf file .refusal) 0 ≡ none → roomOf file ≤ 64 * (2600 + 2)
     go true e =
         let ok = eqb-true (testedOf file .refusal) 0 e in
-        rw (room-good file ok) (omega (arith, accepted-file file ok .most))
+        rw (room-good file ok) (omega (arith, accepted-file file ok .most, most-le (versionIn file)))
     go false e = rw (room-refused file (eqb-false (testedOf file .refusal) 0 e)) (omega arith)
 
 module _ (file out : List ℕ) (fits : roomOf file ≤ length out) where

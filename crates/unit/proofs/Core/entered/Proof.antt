@@ -1,32 +1,25 @@
--- `unit::Core::entered` meets its contract: what `enter` and `back` ensure.
+-- `unit::Core::entered` meets its contract: what `pushed_times` ensures; the sample's along wind and number are kept.
 use borrow.Author.Needs.{needs}
 use mir.Syntax.{w32}
 use mir.Val.{SFits}
 use mir.Facts.{toZ-ofZ}
-use Rattle.unit.specs.Steps.{coreWith, windowsOf}
+use Rattle.unit.specs.Steps.{coreWith}
+use Rattle.unit.proofs.StepLaws.{entered-is}
 use Rattle.unit.proofs.Core.entered.Statement.{statement}
 use Rattle.unit.proofs.Core.entered.Tie as tie
 
-cast-p : tie.Need-cast-p
-cast-p c = search needs
-
-enter-requires : tie.Need-enter-requires
-enter-requires c κs = search needs
-
-back-requires : tie.Need-back-requires
-back-requires c κs = search needs
-
-cast-self : tie.Need-cast-self
-cast-self c = search needs
+pushed-times-requires : tie.Need-pushed-times-requires
+pushed-times-requires c κs = (c .before .pre .0, rw (toZ-ofZ (c .before .fits .entry)) (c .before .pre .1))
 
 along : (c : tie.Start) → SFits w32 (c .args .s .along)
 along c = search needs
 
 returns : tie.Need-returns
-unfolding windowsOf coreWith
+unfolding coreWith
 returns c =
-    let k = c .before .before .before .before .before in
-    rw (c .before .before .enter .ensures .0, c .before .before .enter .ensures .1, c .before .back .ensures .0, toZ-ofZ (k .fits .entry), toZ-ofZ (along k))
+    let k = c .before .before .before in
+    let e = rw (toZ-ofZ (k .fits .entry)) at (c .before .pushed-times .ensures) in
+    rw (toZ-ofZ (along k)) (entered-is _ (k .args .s) (k .args .n) (k .args .entry) e)
 
 pub entered-spec : {M : Type 1} → statement M
-entered-spec = tie.close (tie.spec cast-p enter-requires back-requires cast-self returns)
+entered-spec = tie.close (tie.spec pushed-times-requires returns)

@@ -3,12 +3,13 @@ use mathlib.Core.Path.{_∙_}
 use Prim.Native.Nat.{ℕ, _≤_}
 use borrow.Author.Needs.{needs}
 use borrow.Author.Tests.{lt-ltb, le-ltb}
-use lib.Dec.{lit<}
+use lib.Dec.{lit<, lit≤}
 use lib.IntN.{ℤ, pos, natAbs, _-ℤ_}
 use lib.Signed.{_≤ℤ_}
 use mir.Syntax.{w32}
 use mir.Val.{toZ, ofZ}
 use mir.Facts.{toZ-ofZ}
+use Rattle.frames.proofs.FrameLaws.{fit-bounds}
 use Rattle.rounding.proofs.Fits.{Holds, exact, kept, minus, sfits}
 use Rattle.unit.specs.Steps.{shearOf}
 use Rattle.unit.proofs.Core.shear.Statement.{statement}
@@ -41,7 +42,8 @@ held-requires c κs =
     let k = c .before .before .before .before .before .before .before .before in
     let r = k .pre .1 in
     let f = fields (k .args .s .vertical) (k .args .s .airspeed) (r .vertical-le) (r .airspeed-ge) (r .airspeed-le) in
-    (size (kept w32 (change (k .args .s .along) (k .args .self .along) (r .along-le) (k .pre .0)) (lit< tt)), f .0, f .1, f .2)
+    let n = fit-bounds (k .args .n) (k .pre .3) in
+    (size (kept w32 (change (k .args .s .along) (k .args .self .along) (r .along-le) (k .pre .0)) (lit< tt)), f .0, f .1, f .2, n .0, n .1)
 
 -- the call's result as it is read back
 returns : tie.Need-returns
@@ -53,10 +55,15 @@ returns c =
     let v = kept w32 (exact (k .args .s .vertical) (r .vertical-le)) (lit< tt) in
     let a = kept w32 (exact (k .args .s .airspeed) (r .airspeed-le)) (lit< tt) in
     let e = toZ-ofZ (record { sfits = c .held .ok }) in
-    (e ∙ c .held .ensures .0 ∙ rw (d .is, v .is, a .is, lt-ltb _ _ (c .before .before .before .before .before .if1 .taken)), rw e (c .held .ensures .1))
+    (e ∙ c .held .ensures .0 ∙ rw (d .is, v .is, a .is, ← k .pre .2, lt-ltb _ _ (c .before .before .before .before .before .if1 .taken)), rw e (c .held .ensures .1))
 
 held-requires-2 : tie.Need-held-requires-2
-held-requires-2 c κs = search needs
+held-requires-2 c κs =
+    let k = c .before .before .before .before in
+    let r = k .pre .1 in
+    let f = fields (k .args .s .vertical) (k .args .s .airspeed) (r .vertical-le) (r .airspeed-ge) (r .airspeed-le) in
+    let n = fit-bounds (k .args .n) (k .pre .3) in
+    (lit≤ tt, f .0, f .1, f .2, n .0, n .1)
 
 returns-2 : tie.Need-returns-2
 unfolding shearOf
@@ -66,7 +73,7 @@ returns-2 c =
     let v = kept w32 (exact (k .args .s .vertical) (r .vertical-le)) (lit< tt) in
     let a = kept w32 (exact (k .args .s .airspeed) (r .airspeed-le)) (lit< tt) in
     let e = toZ-ofZ (record { sfits = c .held2 .ok }) in
-    (e ∙ c .held2 .ensures .0 ∙ rw (v .is, a .is, le-ltb _ _ (c .before .if1 .left)), rw e (c .held2 .ensures .1))
+    (e ∙ c .held2 .ensures .0 ∙ rw (v .is, a .is, ← k .pre .2, le-ltb _ _ (c .before .if1 .left)), rw e (c .held2 .ensures .1))
 
 pub shear-spec : {M : Type 1} → statement M
 shear-spec = tie.close (tie.spec sub-held held-requires returns held-requires-2 returns-2)

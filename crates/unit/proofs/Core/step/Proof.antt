@@ -1,11 +1,15 @@
 -- `unit::Core::step` meets its contract: the methods one after another; no number fits, so each may be called.
+use mathlib.Core.Bool.{true}
+use mathlib.Core.Path.{_≡_}
 use borrow.Author.Needs.{needs}
 use mir.Syntax.{w32}
 use mir.Val.{SFits}
 use mir.Facts.{toZ-ofZ}
-use Rattle.unit.specs.Steps.{beside, Valid, InRange}
+use Rattle.frames.specs.Frames.{framesFit}
+use Rattle.frames.proofs.FrameLaws.{fit-bounds}
+use Rattle.unit.specs.Steps.{beside, framesOf, Valid, InRange}
 use Rattle.unit.specs.declared.State.{State}
-use Rattle.unit.proofs.StepLaws.{leans, guide-kept, chain, promised}
+use Rattle.unit.proofs.StepLaws.{leans, entry-fits, guide-kept, chain, promised}
 use Rattle.unit.proofs.Core.step.Statement.{statement}
 use Rattle.unit.proofs.Core.step.Tie as tie
 
@@ -13,14 +17,23 @@ use Rattle.unit.proofs.Core.step.Tie as tie
 abbrev before : tie.Start → State
 before k = beside (k .args .held .now) (k .args .self)
 
-asked : (k : tie.Start) → Valid (before k) × InRange (k .args .s)
+asked : (k : tie.Start) → Valid (before k) × InRange (k .args .s) × (framesFit (framesOf (k .args .self) (k .args .s)) ≡ true)
 asked k = leans (before k) (k .args .s) (k .pre)
 
+frames-requires : tie.Need-frames-requires
+frames-requires c κs = search needs
+
 shear-requires : tie.Need-shear-requires
-shear-requires c κs = (asked c .0 .along-le, asked c .1)
+shear-requires c κs =
+    let a = asked (c .before) in
+    let e = c .frames .ensures in
+    (a .0 .along-le, a .1, e, rw e (a .2))
 
 entered-requires : tie.Need-entered-requires
-entered-requires c κs = asked (c .before .before .before) .0 .ring
+entered-requires c κs =
+    let n = c .before in
+    let y : SFits w32 (n .entry .result) = record { sfits = n .entry .ok } in
+    (asked (n .before .before .before) .0 .ring, rw (toZ-ofZ y) (entry-fits _ (n .entry .ensures)))
 
 entry-requires : tie.Need-entry-requires
 entry-requires c κs = search needs
@@ -42,7 +55,8 @@ returns c =
     let l = c .before .before .before in
     let w = l .before .before in
     let n = w .before .before in
-    let k = n .before .before in
+    let f = n .before .before in
+    let k = f .before in
     let x : SFits w32 (n .before .shear .result) = record { sfits = n .before .shear .ok } in
     let y : SFits w32 (n .entry .result) = record { sfits = n .entry .ok } in
     let h = height k in
@@ -51,15 +65,17 @@ returns c =
     let lit = simp toZ-ofZ at (l .lamps .ensures) in
     let a = simp toZ-ofZ at (c .answer .ensures) in
     promised (before k) (k .args .s) (k .pre)
-    (chain (before k) (k .args .s) (n .before .shear .ensures .0) entry entered lit (c .before .before .voice .ensures) (c .before .pitch .ensures) a)
+    (chain (before k) (k .args .s) (f .frames .ensures) (n .before .shear .ensures .0) entry entered lit (c .before .before .voice .ensures) (c .before .pitch .ensures) a)
 
 pitch-requires : tie.Need-pitch-requires
 pitch-requires c κs =
     let w = c .before .before .before in
-    let k = w .before .before .before .before in
-    (guide-kept (before k) (k .args .s) _ _ (w .entered .ensures) (c .before .lamps .ensures) (c .voice .ensures) (asked k .0), asked k .1)
+    let f = w .before .before .before .before in
+    let k = f .before in
+    let a = asked k in
+    (guide-kept (before k) (k .args .s) _ _ _ (w .entered .ensures) (c .before .lamps .ensures) (c .voice .ensures) (a .0), a .1, rw (f .frames .ensures) (fit-bounds _ (a .2) .1))
 
 pub step-spec : {M : Type 1} → statement M
 step-spec =
     tie.close
-    (tie.spec shear-requires entry-requires entered-requires lamps-requires voice-requires pitch-requires answer-requires returns)
+    (tie.spec frames-requires shear-requires entry-requires entered-requires lamps-requires voice-requires pitch-requires answer-requires returns)

@@ -5,8 +5,7 @@ use Prim.Native.Nat.{ℕ}
 use borrow.Author.Needs.{needs}
 use borrow.Author.Tests.{ne-eqb}
 use Rattle.unit.specs.Choice.{firstOf}
-use Rattle.unit.specs.Rules.{refusal}
-use Rattle.unit.specs.Steps.{passes, refusedOf, refusalOf, offerOf, PlainPromise}
+use Rattle.unit.specs.Steps.{passes, refusedOf, refusalBy, refusalOf, offerOf, PlainPromise}
 use Rattle.unit.specs.declared.Sample.{Sample}
 use Rattle.unit.specs.declared.State.{State}
 use Rattle.unit.proofs.StepLaws.{leans, promised}
@@ -16,21 +15,21 @@ use Rattle.unit.proofs.State.offer.Tie as tie
 passes-requires : tie.Need-passes-requires
 passes-requires c κs = search needs
 
-refusal-requires : tie.Need-refusal-requires
-refusal-requires c κs = search needs
+refusal-by-requires : tie.Need-refusal-by-requires
+refusal-by-requires c κs = search needs
 
 first-of-requires : tie.Need-first-of-requires
 first-of-requires c κs = search needs
 
 -- 8's test and the sample's number give the number
-chain : (t : State) (s : Sample) {ok : Bool} {later n : ℕ} → ok ≡ passes t → later ≡ refusal s → n ≡ firstOf ok 8 later → n ≡ refusalOf t s
+chain : (t : State) (s : Sample) {ok : Bool} {later n : ℕ} → ok ≡ passes t → later ≡ refusalBy (t .core) s → n ≡ firstOf ok 8 later → n ≡ refusalOf t s
 unfolding refusalOf
 chain t s p q e = rw (e, p, q)
 
 number : (c : tie.After-first-of) → c .first-of .result ≡ refusalOf (c .before .before .before .args .self) (c .before .before .before .args .s)
 number c =
     let k = c .before .before .before in
-    chain (k .args .self) (k .args .s) (c .before .before .passes .ensures) (c .before .refusal .ensures) (c .first-of .ensures)
+    chain (k .args .self) (k .args .s) (c .before .before .passes .ensures) (c .before .refusal-by .ensures) (c .first-of .ensures)
 
 accept-requires : tie.Need-accept-requires
 accept-requires c κs = leans _ _ (sym (number (c .before)) ∙ c .if1 .taken)
@@ -44,4 +43,4 @@ returns-2 c = rw (← number (c .before), ne-eqb _ _ (c .if1 .left))
 
 pub offer-spec : {M : Type 1} → statement M
 offer-spec =
-    tie.close (tie.spec passes-requires refusal-requires first-of-requires accept-requires returns returns-2)
+    tie.close (tie.spec passes-requires refusal-by-requires first-of-requires accept-requires returns returns-2)

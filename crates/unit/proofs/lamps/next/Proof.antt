@@ -13,8 +13,11 @@ returns-2 : tie.Need-returns-2
 unfolding lampNext
 returns-2 c = search (tests, c .if2 .left)
 
-add-result : tie.Need-add-result
-add-result c = search needs
+add-sum : tie.Need-add-sum
+add-sum c = search needs
+
+cast-result : tie.Need-cast-result
+cast-result c = search needs
 
 returns-3 : tie.Need-returns-3
 unfolding lampNext
@@ -29,4 +32,4 @@ unfolding lampNext
 returns-5 c = search (tests, c .if4 .left)
 
 pub next-spec : {M : Type 1} → statement M
-next-spec = tie.close (tie.spec returns returns-2 add-result returns-3 returns-4 returns-5)
+next-spec = tie.close (tie.spec returns returns-2 add-sum cast-result returns-3 returns-4 returns-5)

@@ -17,7 +17,7 @@ cap-requires : tie.Need-cap-requires
 cap-requires c κs = search needs
 
 add-t4 : tie.Need-add-t4
-add-t4 c = omega (arith, c .before .counted .ensures, counted-le (c .before .before .args .s) 0)
+add-t4 c = omega (arith, c .before .counted .ensures, counted-le (c .before .before .args .s) 1 0)
 
 smaller-requires : tie.Need-smaller-requires
 smaller-requires c κs = search needs

@@ -13,8 +13,11 @@ returns-2 : tie.Need-returns-2
 unfolding voiceNext
 returns-2 c = search (tests, c .if2 .left)
 
-add-result : tie.Need-add-result
-add-result c = search needs
+add-sum : tie.Need-add-sum
+add-sum c = search needs
+
+cast-result : tie.Need-cast-result
+cast-result c = search needs
 
 returns-3 : tie.Need-returns-3
 unfolding voiceNext
@@ -25,4 +28,4 @@ unfolding voiceNext
 returns-4 c = search tests
 
 pub next-spec : {M : Type 1} → statement M
-next-spec = tie.close (tie.spec returns returns-2 add-result returns-3 returns-4)
+next-spec = tie.close (tie.spec returns returns-2 add-sum cast-result returns-3 returns-4)

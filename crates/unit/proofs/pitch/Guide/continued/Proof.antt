@@ -15,7 +15,7 @@ use Rattle.unit.proofs.pitch.Guide.continued.Statement.{statement}
 use Rattle.unit.proofs.pitch.Guide.continued.Tie as tie
 
 sub-counted : tie.Need-sub-counted
-sub-counted c = c .before .pre .2
+sub-counted c = c .before .pre .3
 
 counted-requires : tie.Need-counted-requires
 counted-requires c κs = search needs
@@ -30,16 +30,16 @@ returns c = rw (← c .before .before .counted .ensures, le-leb 600 _ (c .before
 cap-requires : tie.Need-cap-requires
 cap-requires c κs = search needs
 
-add-t5 : tie.Need-add-t5
-add-t5 c =
+add-t6 : tie.Need-add-t6
+add-t6 c =
     let k = c .before .before .before .before in
-    omega (arith, c .before .before .counted .ensures, counted-le (k .args .s) (k .args .self .count - 1))
+    omega (arith, c .before .before .counted .ensures, counted-le (k .args .s) (k .args .n) (k .args .self .count - 1))
 
 towards-requires : tie.Need-towards-requires
 towards-requires c κs =
     let k = c .before .before .before .before .before in
     let command : SFits w32 (k .args .self .command) = search needs in
-    rw (toZ-ofZ command) (k .pre .0 .command-le)
+    (k .pre .2, rw (toZ-ofZ command) (k .pre .0 .command-le))
 
 smaller-requires : tie.Need-smaller-requires
 smaller-requires c κs = search needs
@@ -69,7 +69,7 @@ continued-spec =
     off-requires
     returns
     cap-requires
-    add-t5
+    add-t6
     towards-requires
     smaller-requires
     returns-2)
