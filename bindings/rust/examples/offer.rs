@@ -1,12 +1,19 @@
-//! Samples offered to the unit, and a run file written, read back and run.
+//! Samples offered to the unit, some frames dropped, and a run file of version 2 written, read back and run.
 
 use windshear::{
     read_record, run, test_file, write_header, write_record, Alert, Record, Sample, State,
-    ANSWER_SIZE, HEADER_SIZE, RECORD_SIZE,
+    ANSWER_SIZE, HEADER_SIZE, RECORD_SIZE_2,
 };
 
-/// The lamp after samples of these along winds, in 0.01 kt, on an approach at 400 ft.
+/// The lamp after samples of these along winds, in 0.01 kt, one in each frame, on an approach at 400 ft.
 pub fn lamp_after(along_winds: &[i32]) -> Alert {
+    // frame numbers go round
+    let frames = (0..=u16::MAX).cycle();
+    lamp_after_frames(frames.zip(along_winds.iter().copied()))
+}
+
+/// The same, each along wind with its frame number: the frames between two numbers were dropped.
+pub fn lamp_after_frames(winds: impl IntoIterator<Item = (u16, i32)>) -> Alert {
     let mut sample = Sample {
         airspeed: 14_000,
         height: 400,
@@ -19,8 +26,8 @@ pub fn lamp_after(along_winds: &[i32]) -> Alert {
     };
     let mut lamp = Alert::None;
     let mut state = State::fresh();
-    for &along in along_winds {
-        sample.along = along;
+    for (frame, along) in winds {
+        (sample.frame, sample.along) = (frame, along);
         let (by_value, _after) = state.offer(sample);
         let answer = state.offer_lent(sample);
         assert_eq!(answer, by_value);
@@ -34,9 +41,9 @@ pub fn lamp_after(along_winds: &[i32]) -> Alert {
 
 /// The ten answer bytes of a run of one record; or the number that refuses the record.
 pub fn answer_to(record: &Record) -> Result<Vec<u8>, u16> {
-    let mut file = [0; HEADER_SIZE + RECORD_SIZE];
+    let mut file = [0; HEADER_SIZE + RECORD_SIZE_2];
     let (header, body) = file.split_at_mut(HEADER_SIZE);
-    let number = write_header(1, header).max(write_record(record, body));
+    let number = write_header(2, 1, header).max(write_record(2, record, body));
     if number != 0 {
         return Err(number);
     }
@@ -54,12 +61,17 @@ pub fn main() {
     // the along wind grows by 4.2 kt a second for five seconds; then a sample that is refused
     let along_winds: Vec<i32> = (0..=100).map(|i| 21 * i).chain([20_001]).collect();
     println!("an exposure: {:?}", lamp_after(&along_winds));
+    // the same wind with a sample in each fifth frame alone; then one 21 frames later, which is refused
+    let winds = (0..=20).map(|i| 5 * i).chain([121]);
+    let winds = winds.map(|frame| (frame, 21 * i32::from(frame)));
+    println!("frames dropped: {:?}", lamp_after_frames(winds));
     // 140.25 kt, a whole number of quarters, is exact; no float is 140.1 kt, and the nearest one is rounded
     for airspeed in [140.25, 140.1] {
         let record = Record {
             airspeed,
             height: 400,
             vs1: 10_000,
+            frame: 65_535,
             ..Record::default()
         };
         println!("{:?}", answer_to(&record));

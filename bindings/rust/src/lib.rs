@@ -3,19 +3,23 @@
 //!
 //! It is for x86-64 Linux only: it links target/staticlib/libhost.a, which `rt staticlib host` writes.
 //!
+//! Twenty frames make a second. The host numbers them with 16 bits that go round, and each sample carries its number: see [`Sample::frame`].
+//!
 //! ```
 //! use windshear::{refusal, Alert, Sample, State};
 //!
 //! // Five seconds at 140 kt in a downdraft of 29.4 kt, a shear of 0.2100, light the red lamp.
-//! let mut sample = Sample { vertical: -2_940, airspeed: 14_000, height: 400, stall: 20_000, vs1: 10_000, mode: 1, ..Sample::default() };
+//! let sample = Sample { vertical: -2_940, airspeed: 14_000, height: 400, stall: 20_000, vs1: 10_000, mode: 1, ..Sample::default() };
 //! let mut state = State::fresh();
-//! for _ in 0..99 {
-//!     assert_eq!(state.offer_lent(sample).lamp(), Ok(Alert::None));
+//! for frame in 0..99 {
+//!     assert_eq!(state.offer_lent(Sample { frame, ..sample }).lamp(), Ok(Alert::None));
 //! }
-//! assert_eq!(state.offer_lent(sample).lamp(), Ok(Alert::Red));
+//! assert_eq!(state.offer_lent(Sample { frame: 99, ..sample }).lamp(), Ok(Alert::Red));
 //! // A refused sample says nothing of the lamps: red is still lit.
-//! sample.along = 20_001;
-//! assert_eq!(state.offer_lent(sample).lamp(), Err(refusal::ALONG));
+//! assert_eq!(state.offer_lent(Sample { frame: 100, along: 20_001, ..sample }).lamp(), Err(refusal::ALONG));
+//! // Its frame was not taken: the next sample may have the same number, and the one after it may not.
+//! assert_eq!(state.offer_lent(Sample { frame: 100, ..sample }).lamp(), Ok(Alert::Red));
+//! assert_eq!(state.offer_lent(Sample { frame: 100, ..sample }).lamp(), Err(refusal::FRAMES));
 //! ```
 
 // a public field without its unit and range is refused where warnings are errors
@@ -24,7 +28,8 @@
 mod tidy;
 pub use tidy::{tidy, Tidied};
 
-/// The bytes of a run file's header. A file is a header and then its records.
+/// The bytes of a run file's header. A file is a header and then its records: those of version 1, as here, stand for one frame each; those of version 2
+/// carry their frame number (see [`RECORD_SIZE_2`]).
 ///
 /// ```
 /// use windshear::{refusal, run, test_file, write_header, write_record, Outcome, Record};
@@ -33,10 +38,10 @@ pub use tidy::{tidy, Tidied};
 /// let record = Record { airspeed: 140.0, vs1: 10_000, ..Record::default() };
 /// let mut file = vec![0; HEADER_SIZE + RECORD_SIZE * MAX_RECORDS];
 /// let (header, records) = file.split_at_mut(HEADER_SIZE);
-/// assert_eq!(write_header(MAX_RECORDS as u32 + 1, header), refusal::COUNT);
-/// assert_eq!(write_header(MAX_RECORDS as u32, header), 0);
+/// assert_eq!(write_header(1, MAX_RECORDS as u32 + 1, header), refusal::COUNT);
+/// assert_eq!(write_header(1, MAX_RECORDS as u32, header), 0);
 /// for bytes in records.chunks_mut(RECORD_SIZE) {
-///     assert_eq!(write_record(&record, bytes), 0);
+///     assert_eq!(write_record(1, &record, bytes), 0);
 /// }
 /// assert_eq!(usize::from(test_file(&file).count), MAX_RECORDS);
 /// let mut answers = vec![1; ANSWER_SIZE * MAX_RECORDS];
@@ -44,10 +49,40 @@ pub use tidy::{tidy, Tidied};
 /// assert!(answers.iter().all(|&byte| byte == 0));
 /// ```
 pub const HEADER_SIZE: usize = 8;
-/// The bytes of a run file's record.
+/// The bytes of a version 1 run file's record.
 pub const RECORD_SIZE: usize = 24;
-/// The greatest count of records that a run file may have.
+/// The greatest count of records that a version 1 run file may have.
 pub const MAX_RECORDS: usize = 2_600;
+/// The bytes of a version 2 run file's record, the last two its frame number.
+///
+/// ```
+/// use windshear::{refusal, run, test_file, write_header, write_record, Outcome, Record, ANSWER_SIZE, HEADER_SIZE, MAX_FRAMES, RECORD_SIZE_2};
+///
+/// // Six records in a downdraft, 20 frames from each to the next: the first stands for one frame, the others for five seconds, and red comes on.
+/// let mut record = Record { vertical: -29.4, airspeed: 140.0, height: 400, stall: 20_000, vs1: 10_000, frame: 65_500, ..Record::default() };
+/// let mut file = [0; HEADER_SIZE + 6 * RECORD_SIZE_2];
+/// let (header, records) = file.split_at_mut(HEADER_SIZE);
+/// assert_eq!(write_header(3, 6, header), refusal::VERSION);
+/// assert_eq!(write_header(2, 6, header), 0);
+/// for bytes in records.chunks_mut(RECORD_SIZE_2) {
+///     assert_eq!(write_record(2, &record, bytes), 0);
+///     // after 65,535 comes 0
+///     record.frame = record.frame.wrapping_add(MAX_FRAMES);
+/// }
+/// let test = test_file(&file);
+/// assert_eq!((test.refusal, test.version, test.count), (0, 2, 6));
+/// let mut answers = [0; 6 * ANSWER_SIZE];
+/// assert_eq!(run(&file, &mut answers), Outcome::default());
+/// assert!(answers.chunks(ANSWER_SIZE).map(|answer| answer[0]).eq([0, 0, 0, 0, 0, 2]));
+/// // The last record a frame later: 21 elapsed are one too many.
+/// file[HEADER_SIZE + 6 * RECORD_SIZE_2 - 2] += 1;
+/// assert_eq!(run(&file, &mut answers), Outcome { refusal: refusal::FRAMES, place: 5 });
+/// ```
+pub const RECORD_SIZE_2: usize = 26;
+/// The greatest count of records that a version 2 run file may have.
+pub const MAX_RECORDS_2: usize = 2_500;
+/// The most frames that a sample may stand for.
+pub const MAX_FRAMES: u16 = 20;
 /// The bytes that [`run`] writes for each record. An [`Answer`] is another thing, and larger.
 pub const ANSWER_SIZE: usize = 10;
 /// The bytes of room that [`list`] asks for each line of a listing; no line is longer.
@@ -58,7 +93,8 @@ pub const ENTRY_LIMIT: i32 = 34_500;
 /// of a record that is accepted are never cut.
 pub const HUNDREDTHS_LIMIT: i32 = 1_000_000;
 
-/// One sample; twenty make a second. A field may hold any value; each says what is accepted. The default is all zeros, and is refused.
+/// One sample, which stands for the frames since the one before it; twenty make a second. A field may hold any value; each says what is accepted. The
+/// default is all zeros, and is refused.
 #[repr(C)]
 #[derive(Clone, Copy, Debug, Default, PartialEq, Eq)]
 pub struct Sample {
@@ -82,12 +118,36 @@ pub struct Sample {
     pub mode: i32,
     /// 1 when the pilot cancels, else 0
     pub deselect: i32,
+    /// The host's frame number, of 16 bits that go round: after 65,535 comes 0.
+    ///
+    /// The sample stands for the frames elapsed since the last accepted one, the difference of the two numbers: 1 to [`MAX_FRAMES`], so that the host may
+    /// drop some, and else it is refused by [`refusal::FRAMES`] (the same number again is 0 frames, one that goes back is many). The first stands for
+    /// one frame, whatever its number. The change of along wind is divided over the frames, and the shear enters the windows that many times and is
+    /// judged once; lamps, voice and the end of guidance count in frames, as they stand at the sample's last, and the command may move 75 for each.
+    ///
+    /// A sample refused by [`refusal::FRAMES`] is as if never offered, and the kept number stays: a host that has fallen more than 20 frames behind is
+    /// refused until it takes a fresh state, or the number comes round.
+    ///
+    /// ```
+    /// use windshear::{refusal, Sample, State};
+    ///
+    /// let sample = Sample { airspeed: 14_000, height: 400, vs1: 10_000, ..Sample::default() };
+    /// let mut state = State::fresh();
+    /// let mut offer = |frame, along| state.offer_lent(Sample { frame, along, ..sample });
+    /// assert_eq!(offer(65_530, 0).refusal, 0);
+    /// // 20 kt more after 20 frames, of which 19 were dropped, are 1 kt in each.
+    /// assert_eq!((offer(14, 2_000).shear, offer(15, 2_100).shear), (104_917, 104_917));
+    /// // The same number, 21 frames and one back; then 20.
+    /// assert_eq!([15, 36, 14].map(|frame| offer(frame, 2_100).refusal), [refusal::FRAMES; 3]);
+    /// assert_eq!(offer(35, 2_100).refusal, 0);
+    /// ```
+    pub frame: u16,
 }
 
 impl From<[i32; 10]> for Sample {
-    /// The ten fields in 01's order.
+    /// The ten fields in 01's order, and frame number 0.
     fn from([along, vertical, airspeed, height, pitch, stall, climb, vs1, mode, deselect]: [i32; 10]) -> Sample {
-        Sample { along, vertical, airspeed, height, pitch, stall, climb, vs1, mode, deselect }
+        Sample { along, vertical, airspeed, height, pitch, stall, climb, vs1, mode, deselect, frame: 0 }
     }
 }
 
@@ -132,34 +192,38 @@ pub struct Core {
     pub command: i32,
     /// counter: 0 while no sample has been accepted, else 1
     pub seen: u16,
-    /// counter: samples for which red has been lit, up to 60
+    /// counter: frames for which red has been lit, the one where it came on being the first, up to 60; 0: dark
     pub red: u16,
     /// counter: the same for amber
     pub amber: u16,
-    /// counter: samples since the voice was given, that one included, up to 73; 0: none since the last mode change
+    /// counter: frames since the voice was given, the first one included, up to 73; 0: none since the last mode change
     pub voice: u16,
-    /// counter: 0 is off; else one more than the samples in a row that have counted towards its end
+    /// counter: 0 is off; else one more than the frames in a row that have counted towards its end
     pub guidance: u16,
     /// where the newest entry stands in the ring: 0 to 199
     pub place: u16,
+    /// the last accepted sample's frame number, any; 0 while there is none. It is no counter
+    pub frame: u16,
 }
 
 /// The unit's state, which the host keeps: it is returned or lent from sample to sample. An entry outside its range is refused by [`refusal::STATE`].
 ///
-/// Its entries are what the last two hundred accepted samples entered into the windows, 0 before the first: the held shear of each, which the unit
-/// cuts to between -[`ENTRY_LIMIT`] and [`ENTRY_LIMIT`], so that one sharp gust by itself lights no lamp; [`Answer::shear`] is not cut. They are a
-/// ring: the newest stands at `core.place`, each older one a place further on, and after place 199 comes place 0. The next entry is written one place
-/// back, over the oldest, and is the newest then: from the fresh state the first one goes to place 199. States that differ only in how far the ring is
-/// turned are not equal, but stand for the same history: every sample gets the same answer from them.
+/// Its entries are what entered the windows in the last two hundred frames, 0 before the first: the held shear of the sample that stands for each,
+/// which the unit cuts to between -[`ENTRY_LIMIT`] and [`ENTRY_LIMIT`], so that one sharp gust by itself lights no lamp; [`Answer::shear`] is not cut.
+/// They are a ring: the newest stands at `core.place`, each older one a place further on, and after place 199 comes place 0. The next entry is written
+/// one place back, over the oldest, and is the newest then: from the fresh state the first one goes to place 199. A sample that stands for three frames
+/// writes three. States that differ only in how far the ring is turned are not equal, but stand for the same history: every sample gets the same answer
+/// from them.
 ///
 /// A host may build a state of its own, from any place on. To have the unit's own history it cuts each held shear as the unit does: an entry that a
 /// state holds is summed as it stands, up to 50,000,000. With `seen` left at 0 the next sample would be taken as the first, with no change of along
-/// wind; with 1, `along` and `mode` are those of the sample that entered the newest:
+/// wind, and stand for one frame whatever its number; with 1, `along`, `mode` and `frame` are those of the sample that entered the newest:
 ///
 /// ```
 /// use windshear::{Sample, State, Sums, ENTRY_LIMIT};
 ///
 /// let last = Sample { along: 2_000, vertical: -2_940, airspeed: 14_000, height: 400, stall: 20_000, vs1: 10_000, mode: 1, ..Sample::default() };
+/// let last = Sample { frame: 65_535, ..last };
 /// // The shears as they were answered: a gust, and then five seconds in a downdraft.
 /// let mut newest_first = [21_000; 101];
 /// newest_first[100] = 2_098_349;
@@ -168,13 +232,14 @@ pub struct Core {
 /// state.core.seen = 1;
 /// state.core.along = last.along;
 /// state.core.mode = last.mode;
+/// state.core.frame = last.frame;
 /// state.core.place = 198;
 /// for (i, entry) in newest_first.into_iter().enumerate() {
 ///     state.held[(198 + i) % 200] = entry;
 /// }
 /// state.core.sums = Sums::of(newest_first);
-/// // Another gust: the answer shows it whole, and its entry is cut.
-/// let answer = state.offer_lent(Sample { along: 4_000, ..last });
+/// // Another gust, a frame later: the answer shows it whole, and its entry is cut.
+/// let answer = state.offer_lent(Sample { along: 4_000, frame: 0, ..last });
 /// assert_eq!((answer.refusal, answer.alert, answer.shear), (0, 2, 2_119_349));
 /// assert_eq!(state.core.place, 197);
 /// assert!(state.entries().take(2).eq([ENTRY_LIMIT, 21_000]) && state.entries().skip(101).take(2).eq([ENTRY_LIMIT, 0]));
@@ -196,13 +261,15 @@ pub mod refusal {
     pub const SHORT: u16 = 1;
     /// mark is not `WSR`
     pub const MARK: u16 = 2;
-    /// version is not 1
+    /// version is neither 1 nor 2; of a file to be exported, not 1
     pub const VERSION: u16 = 3;
     /// sixth byte is not zero
     pub const ZERO: u16 = 4;
-    /// count above [`MAX_RECORDS`](crate::MAX_RECORDS), or a text of more samples
+    /// count above [`MAX_RECORDS`](crate::MAX_RECORDS), in version 2 above [`MAX_RECORDS_2`](crate::MAX_RECORDS_2); or a text of more samples than the
+    /// first
     pub const COUNT: u16 = 5;
-    /// length is not [`HEADER_SIZE`](crate::HEADER_SIZE) + [`RECORD_SIZE`](crate::RECORD_SIZE) × count
+    /// length is not [`HEADER_SIZE`](crate::HEADER_SIZE) + [`RECORD_SIZE`](crate::RECORD_SIZE) × count, in version 2 with
+    /// [`RECORD_SIZE_2`](crate::RECORD_SIZE_2)
     pub const LENGTH: u16 = 6;
     /// lent buffer has the wrong length
     pub const BUFFER: u16 = 7;
@@ -228,6 +295,8 @@ pub mod refusal {
     pub const MODE: u16 = 19;
     /// deselect is neither 0 nor 1
     pub const DESELECT: u16 = 20;
+    /// elapsed frames are not 1 to [`MAX_FRAMES`](crate::MAX_FRAMES): see [`Sample::frame`](crate::Sample::frame)
+    pub const FRAMES: u16 = 21;
     /// header line of a text is wrong
     pub const CSV_HEADER: u16 = 23;
     /// a line or a field of a text is malformed
@@ -242,20 +311,20 @@ pub mod refusal {
 ///
 /// assert_eq!(meaning(refusal::MARK), "the mark is not WSR");
 /// assert_eq!(meaning(refusal::CSV_LINE), "a line or a field is malformed");
-/// // Each of the twenty numbers has words of its own; 0 refuses nothing, and 21 is no number of ours.
-/// let words: HashSet<_> = (0..=8).chain(11..=20).chain([21, 23, 24]).map(meaning).collect();
-/// assert_eq!(words.len(), 20 + 2);
-/// assert_eq!([0, 21].map(meaning), ["nothing is refused", "no such refusal number"]);
+/// // Each of the 21 numbers has words of its own; 0 refuses nothing, and 9 is no number of ours.
+/// let words: HashSet<_> = (0..=9).chain(11..=21).chain([23, 24]).map(meaning).collect();
+/// assert_eq!(words.len(), 21 + 2);
+/// assert_eq!([0, 9].map(meaning), ["nothing is refused", "no such refusal number"]);
 /// ```
 pub fn meaning(number: u16) -> &'static str {
     match number {
         0 => "nothing is refused",
         refusal::SHORT => "the file is shorter than 8 bytes",
         refusal::MARK => "the mark is not WSR",
-        refusal::VERSION => "the version is not 1",
+        refusal::VERSION => "the version is neither 1 nor 2",
         refusal::ZERO => "the sixth byte is not zero",
-        refusal::COUNT => "there are more than 2,600 samples",
-        refusal::LENGTH => "the length is not 8 + 24 x count",
+        refusal::COUNT => "there are more than 2,600 samples, or 2,500 in version 2",
+        refusal::LENGTH => "the length is not 8 + 24 x count, or 8 + 26 x count in version 2",
         refusal::BUFFER => "the lent buffer has the wrong length",
         refusal::STATE => "the state does not pass",
         refusal::ALONG => "along wind out of range, or not a finite number",
@@ -268,6 +337,7 @@ pub fn meaning(number: u16) -> &'static str {
         refusal::VS1 => "stall speed Vs1 out of range",
         refusal::MODE => "mode is neither 0 nor 1",
         refusal::DESELECT => "deselect is neither 0 nor 1",
+        refusal::FRAMES => "elapsed frames are not 1 to 20",
         refusal::CSV_HEADER => "the header line is wrong",
         refusal::CSV_LINE => "a line or a field is malformed",
         _ => "no such refusal number",
@@ -291,7 +361,7 @@ pub enum Alert {
 #[repr(C)]
 #[derive(Clone, Copy, Debug, PartialEq, Eq)]
 pub struct Answer {
-    /// 0, or a number of [`refusal`]: 8, or 11 to 20
+    /// 0, or a number of [`refusal`]: 8, or 11 to 21
     pub refusal: u16,
     /// 0 none, 1 amber, 2 red, where `refusal` is 0
     pub alert: u16,
@@ -337,15 +407,17 @@ pub struct Record {
     pub mode: u8,
     /// 1 when the pilot cancels, else 0
     pub deselect: u8,
+    /// version 2: the host's frame number, any (see [`Sample::frame`]); version 1 has none: 0 where it was read, not written
+    pub frame: u16,
 }
 
 /// What a run is answered.
 #[repr(C)]
 #[derive(Clone, Copy, Debug, Default, PartialEq, Eq)]
 pub struct Outcome {
-    /// 0 where the file was run; or a number of [`refusal`]: 1 to 7, or 11 to 20
+    /// 0 where the file was run; or a number of [`refusal`]: 1 to 7, or 11 to 21
     pub refusal: u16,
-    /// for 11 to 20 the first bad record's place from 0; else 0
+    /// for 11 to 21 the first bad record's place from 0; else 0
     pub place: u16,
 }
 
@@ -353,12 +425,14 @@ pub struct Outcome {
 #[repr(C)]
 #[derive(Clone, Copy, Debug, Default, PartialEq, Eq)]
 pub struct FileTest {
-    /// 0 where [`run`] would run the file; or a number of [`refusal`]: 1 to 6, or 11 to 20
+    /// 0 where [`run`] would run the file; or a number of [`refusal`]: 1 to 6, or 11 to 21
     pub refusal: u16,
-    /// for 11 to 20 the first bad record's place from 0; else 0
+    /// for 11 to 21 the first bad record's place from 0; else 0
     pub place: u16,
-    /// how many records the file has, 0 to [`MAX_RECORDS`], where `refusal` is 0; else 0
+    /// how many records the file has, 0 to [`MAX_RECORDS`] or, in version 2, [`MAX_RECORDS_2`], where `refusal` is 0; else 0
     pub count: u16,
+    /// the file's version, 1 or 2, where `refusal` is 0; else 0
+    pub version: u16,
 }
 
 /// What the output of an import or an export needs, by [`import_length`] and [`export_length`].
@@ -388,7 +462,7 @@ pub struct Exchanged {
 pub enum Unread {
     /// the file has no record at that place
     NoSuchPlace,
-    /// the number of [`refusal`] that refuses the file, 1 to 6, or the record at that place, 11 to 20
+    /// the number of [`refusal`] that refuses the file, 1 to 6, or the record at that place, 11 to 20; never 21, which is of two records
     Refused(u16),
 }
 
@@ -400,7 +474,7 @@ pub enum Unread {
 pub struct Reading {
     /// the record as the file has it, its floats bit for bit
     pub record: Record,
-    /// the sample that a run takes it as
+    /// the sample that a run takes it as; its frame number is the record's, or in version 1 its place
     pub sample: Sample,
     /// whether all three floats were exact hundredths; else one at least was rounded: see [`Hundredths`]
     pub exact: bool,
@@ -444,8 +518,8 @@ extern "C" {
     fn windshear_offer(state: State, sample: Sample) -> Offered;
     fn windshear_offer_lent(state: &mut State, sample: Sample) -> Answer;
     fn windshear_hundredths(bits: u32) -> Converted;
-    fn windshear_write_header(count: u32, buf: *mut u8, len: usize) -> u16;
-    fn windshear_write_record(record: Record, buf: *mut u8, len: usize) -> u16;
+    fn windshear_write_header(version: u32, count: u32, buf: *mut u8, len: usize) -> u16;
+    fn windshear_write_record(version: u32, record: Record, buf: *mut u8, len: usize) -> u16;
     fn windshear_test_file(file: *const u8, len: usize) -> FileTest;
     fn windshear_read_record(file: *const u8, len: usize, place: usize) -> Found;
     fn windshear_run(file: *const u8, file_len: usize, answers: *mut u8, len: usize) -> Outcome;
@@ -535,22 +609,25 @@ pub fn hundredths(bits: u32) -> Option<Hundredths> {
     })
 }
 
-/// Writes the header of a run file of so many records into [`HEADER_SIZE`] bytes and answers 0; or answers 5 or 7, and the buffer stays as it was.
+/// Writes the header of a run file, of version 1 or 2 and of so many records, into [`HEADER_SIZE`] bytes and answers 0; or answers 3, 5 or 7, the first
+/// that fits, and the buffer stays as it was.
 #[must_use = "where it is not 0, no header was written"]
-pub fn write_header(count: u32, buf: &mut [u8]) -> u16 {
+pub fn write_header(version: u32, count: u32, buf: &mut [u8]) -> u16 {
     // SAFETY: pointer and length are those of a slice that is ours alone during the call; the function
-    // is proved to be defined for every count and every length, and to write nothing outside the slice.
-    unsafe { windshear_write_header(count, buf.as_mut_ptr(), buf.len()) }
+    // is proved to be defined for every version, count and length, and to write nothing outside the slice.
+    unsafe { windshear_write_header(version, count, buf.as_mut_ptr(), buf.len()) }
 }
 
-/// Writes a record of a run file into [`RECORD_SIZE`] bytes and answers 0; or answers 7 or 11 to 20, and the buffer stays as it was.
+/// Writes a record of a run file of version 1 or 2 into [`RECORD_SIZE`] or [`RECORD_SIZE_2`] bytes and answers 0; or answers 3, 7 or 11 to 20, the first
+/// that fits, and the buffer stays as it was. 21 is not tested, as there is no record before it: [`test_file`] tests it.
 #[must_use = "where it is not 0, no record was written"]
-pub fn write_record(record: &Record, buf: &mut [u8]) -> u16 {
+pub fn write_record(version: u32, record: &Record, buf: &mut [u8]) -> u16 {
     // SAFETY: as for `write_header`; the function is defined for every record, whatever its floats.
-    unsafe { windshear_write_record(*record, buf.as_mut_ptr(), buf.len()) }
+    unsafe { windshear_write_record(version, *record, buf.as_mut_ptr(), buf.len()) }
 }
 
-/// What [`run`] would answer of the file with an answer buffer of the right length, [`ANSWER_SIZE`] bytes a record, and how many records it has.
+/// What [`run`] would answer of the file with an answer buffer of the right length, [`ANSWER_SIZE`] bytes a record, and how many records it has and of
+/// which version.
 #[must_use]
 pub fn test_file(file: &[u8]) -> FileTest {
     // SAFETY: pointer and length are those of a slice; the function is proved to be defined for all contents and lengths, and writes nothing.
@@ -558,15 +635,17 @@ pub fn test_file(file: &[u8]) -> FileTest {
 }
 
 /// The record at a place from 0, as the file has it, with the sample that a run takes it as and whether its floats were exact hundredths; or why
-/// there is none to read. Other records of the file may be refused.
+/// there is none to read. Other records of the file may be refused, and this one by its frame number, which is judged by the record before it.
+///
+/// The samples of a version 1 file are numbered by place, so that offered one by one each stands for one frame, as in its run.
 ///
 /// ```
 /// use windshear::{read_record, refusal, write_header, write_record, Record, Unread, HEADER_SIZE, RECORD_SIZE};
 ///
 /// let record = Record { along: -0.0, airspeed: 140.0, height: 400, vs1: 10_000, ..Record::default() };
 /// let mut file = [0; HEADER_SIZE + RECORD_SIZE];
-/// assert_eq!(write_header(1, &mut file[..HEADER_SIZE]), 0);
-/// assert_eq!(write_record(&record, &mut file[HEADER_SIZE..]), 0);
+/// assert_eq!(write_header(1, 1, &mut file[..HEADER_SIZE]), 0);
+/// assert_eq!(write_record(1, &record, &mut file[HEADER_SIZE..]), 0);
 /// let read = read_record(&file, 0).unwrap();
 /// assert!(read.record == record && read.record.along.is_sign_negative() && read.sample.airspeed == 14_000 && read.exact);
 /// assert_eq!(read_record(&file, 1), Err(Unread::NoSuchPlace));
@@ -596,7 +675,7 @@ pub fn read_record(file: &[u8], place: usize) -> Result<Reading, Unread> {
 /// use windshear::{refusal, run, write_header, Outcome, HEADER_SIZE};
 ///
 /// let mut file = [0; HEADER_SIZE];
-/// assert_eq!(write_header(0, &mut file), 0);
+/// assert_eq!(write_header(1, 0, &mut file), 0);
 /// assert_eq!(run(&file, &mut []), Outcome::default());
 /// assert_eq!(run(&[], &mut []).refusal, refusal::SHORT);
 /// ```
@@ -623,7 +702,7 @@ pub fn import_length(text: &[u8]) -> Needed {
     unsafe { windshear_import_length(text.as_ptr(), text.len()) }
 }
 
-/// Writes the run file of a CSV text (RFC 4180) into [`import_length`]'s bytes; or answers a refusal, and `file` stays as it was.
+/// Writes the run file of a CSV text (RFC 4180), of version 1, into [`import_length`]'s bytes; or answers a refusal, and `file` stays as it was.
 /// [`import_text`] makes the buffer itself.
 ///
 /// The text is one header line with ten names, then a line for each sample with its ten fields in the same order; each line ends in CRLF, the last one
@@ -647,11 +726,12 @@ pub fn export_length(file: &[u8]) -> Needed {
     unsafe { windshear_export_length(file.as_ptr(), file.len()) }
 }
 
-/// Writes a run file as a CSV text, as [`import`] has it, into [`export_length`]'s bytes; or answers a refusal, and `text` stays as it was.
+/// Writes a run file of version 1 as a CSV text, as [`import`] has it, into [`export_length`]'s bytes; or answers a refusal, and `text` stays as it was.
 /// [`export_file`] makes the buffer itself.
 ///
 /// Each speed is written as its hundredths, the rest as they are: no field is quoted, no number has a plus or a needless leading zero, and zero has no
-/// minus. It is refused by 1 to 6; 11 to 20 with the first bad record's place, as [`test_file`] gives it; 7.
+/// minus. It is refused by 1 to 6, version 2 by 3, as a text has no frame numbers; 11 to 20 with the first bad record's place, as [`test_file`] gives it;
+/// 7.
 #[must_use = "a refused export leaves the text as it was"]
 pub fn export(file: &[u8], text: &mut [u8]) -> Exchanged {
     // SAFETY: as for `run`.
@@ -712,7 +792,9 @@ pub fn import_text(text: &[u8]) -> Result<Vec<u8>, Exchanged> {
 ///
 /// let mut file = [0; HEADER_SIZE];
 /// assert_eq!(export_file(&file), Err(Exchanged { place: 0, refusal: refusal::MARK }));
-/// assert_eq!(write_header(0, &mut file), 0);
+/// assert_eq!(write_header(2, 0, &mut file), 0);
+/// assert_eq!(export_file(&file), Err(Exchanged { place: 0, refusal: refusal::VERSION }));
+/// assert_eq!(write_header(1, 0, &mut file), 0);
 /// let text = String::from_utf8(export_file(&file).unwrap()).unwrap();
 /// assert!(text.starts_with("along wind,vertical wind,") && text.ends_with(",mode,deselect\r\n") && text.lines().count() == 1);
 /// ```
@@ -732,11 +814,11 @@ pub fn export_file(file: &[u8]) -> Result<Vec<u8>, Exchanged> {
 /// assert_eq!(list(&file, &mut line[..63]), 0);
 /// let length = list(&file, &mut line);
 /// assert_eq!(&line[..length], b"refused 2 at 0\n");
-/// assert_eq!(write_header(0, &mut file), 0);
+/// assert_eq!(write_header(1, 0, &mut file), 0);
 /// assert_eq!(listing(&file).unwrap(), b"sample shear alert voice command float\nred 0 amber 0\n");
 /// ```
 pub fn listing(file: &[u8]) -> Result<Vec<u8>, Outcome> {
-    let FileTest { refusal, place, count } = test_file(file);
+    let FileTest { refusal, place, count, .. } = test_file(file);
     if refusal != 0 {
         return Err(Outcome { refusal, place });
     }
@@ -754,17 +836,18 @@ struct Readme;
 // The layout that the library has, as include/windshear.h states it too.
 const _: () = {
     use std::mem::{align_of, offset_of, size_of};
-    assert!(size_of::<Sample>() == 40 && offset_of!(Sample, deselect) == 36);
+    assert!(size_of::<Sample>() == 44 && offset_of!(Sample, deselect) == 36 && offset_of!(Sample, frame) == 40);
     assert!(size_of::<Sums>() == 48 && offset_of!(Sums, s180) == 8 && offset_of!(Sums, s100) == 40);
-    assert!(size_of::<Core>() == 72 && offset_of!(Core, along) == 48 && offset_of!(Core, seen) == 60 && offset_of!(Core, place) == 70);
-    assert!(size_of::<State>() == 872 && offset_of!(State, core) == 800);
+    assert!(size_of::<Core>() == 80 && offset_of!(Core, along) == 48 && offset_of!(Core, seen) == 60 && offset_of!(Core, place) == 70);
+    assert!(offset_of!(Core, frame) == 72);
+    assert!(size_of::<State>() == 880 && offset_of!(State, core) == 800);
     assert!(size_of::<Answer>() == 16 && offset_of!(Answer, command) == 8 && offset_of!(Answer, shear) == 12);
-    assert!(size_of::<Offered>() == 888 && offset_of!(Offered, state) == 16);
+    assert!(size_of::<Offered>() == 896 && offset_of!(Offered, state) == 16);
     assert!(align_of::<State>() == 8 && align_of::<Offered>() == 8);
-    assert!(size_of::<Record>() == 24 && offset_of!(Record, height) == 12 && offset_of!(Record, deselect) == 23);
+    assert!(size_of::<Record>() == 28 && offset_of!(Record, height) == 12 && offset_of!(Record, deselect) == 23 && offset_of!(Record, frame) == 24);
     assert!(size_of::<Outcome>() == 4 && offset_of!(Outcome, place) == 2);
-    assert!(size_of::<FileTest>() == 6 && offset_of!(FileTest, count) == 4);
-    assert!(size_of::<Found>() == 72 && offset_of!(Found, exact) == 4 && offset_of!(Found, record) == 8 && offset_of!(Found, sample) == 32);
+    assert!(size_of::<FileTest>() == 8 && offset_of!(FileTest, count) == 4 && offset_of!(FileTest, version) == 6);
+    assert!(size_of::<Found>() == 80 && offset_of!(Found, exact) == 4 && offset_of!(Found, record) == 8 && offset_of!(Found, sample) == 36);
     assert!(size_of::<Converted>() == 12 && offset_of!(Converted, exact) == 2 && offset_of!(Converted, cut) == 4);
     assert!(offset_of!(Converted, hundredths) == 8);
     assert!(size_of::<Needed>() == 24 && offset_of!(Needed, place) == 8 && offset_of!(Needed, refusal) == 16);

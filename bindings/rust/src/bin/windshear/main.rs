@@ -8,7 +8,7 @@ use std::env;
 use std::ffi::{OsStr, OsString};
 use std::io::{self, Write};
 use std::process::ExitCode;
-use windshear::{export_file, import_length, import_text, listing, meaning, refusal, tidy, Exchanged, Outcome, Tidied};
+use windshear::{export_file, import_length, import_text, listing, meaning, refusal, test_file, tidy, Exchanged, Outcome, Tidied};
 
 const HELP: &str = "\
 windshear: lists run files, and exchanges them with spreadsheets
@@ -38,6 +38,11 @@ gets what was written before a write failed. An input of any size is read whole,
 and memory grows with it: to four times its size, where import looks whether
 tidy would mend a text.
 
+A run file is of version 1, a frame for each record, or of version 2, whose
+records carry the host's frame numbers: each stands for the frames since the one
+before it, 1 to 20. list takes both. A CSV text has no frame numbers: import
+writes version 1, and export refuses version 2 by 3.
+
 A CSV text has a header line and a line for each sample, each ended by CRLF; its
 speeds, fields 1, 2, 3 and 8, have exactly two decimals. A spreadsheet may save
 it with LF line ends and without trailing zeros: import refuses that by 23 or
@@ -62,6 +67,10 @@ impl End {
     fn misuse(said: impl Into<String>) -> End {
         End { said: said.into(), status: 2 }
     }
+
+    fn refused(Exchanged { refusal, place }: Exchanged, words: &str) -> End {
+        End { said: format!("refused {refusal} at {place}: {words}"), status: 1 }
+    }
 }
 
 /// A file that can't be read or written.
@@ -72,8 +81,8 @@ impl From<String> for End {
 }
 
 impl From<Exchanged> for End {
-    fn from(Exchanged { refusal, place }: Exchanged) -> End {
-        End { said: format!("refused {refusal} at {place}: {}", meaning(refusal)), status: 1 }
+    fn from(refused: Exchanged) -> End {
+        End::refused(refused, meaning(refused.refusal))
     }
 }
 
@@ -175,7 +184,11 @@ fn counts(Tidied { ends, speeds }: Tidied) -> String {
 
 fn export(file: &OsStr, text: &OsStr, force: bool) -> Result<(), End> {
     let input = read(file)?;
-    let output = export_file(&input.bytes)?;
+    let output = export_file(&input.bytes).map_err(|refused| {
+        // a version that is read, but not exported (02, A6)
+        let version_2 = refused.refusal == refusal::VERSION && test_file(&input.bytes).refusal != refusal::VERSION;
+        End::refused(refused, if version_2 { "the version is 2, and a CSV text holds version 1 only" } else { meaning(refused.refusal) })
+    })?;
     Ok(write(text, force, &input, |out| out.write_all(&output))?)
 }
 
