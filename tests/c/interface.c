@@ -1,5 +1,5 @@
 /* The C interface: the layout of every struct against the library, what refusals leave behind, what enters the windows, runs against lone samples,
- * records read back, which floats are exact, rounded or cut, and texts imported, exported and listed. */
+ * records read back, which floats are exact, rounded or cut, texts imported, exported and listed, and frames in lone samples and in version 2. */
 #include <stdio.h>
 #include <stdlib.h>
 #include <string.h>
@@ -7,21 +7,23 @@
 
 #define AT(type, field, offset) _Static_assert(offsetof(struct windshear_##type, field) == offset, #type "." #field)
 #define SIZE(type, size) _Static_assert(sizeof(struct windshear_##type) == size, #type)
-SIZE(sample, 40); SIZE(sums, 48); SIZE(core, 72); SIZE(state, 872); SIZE(answer, 16); SIZE(offered, 888); SIZE(record, 24); SIZE(outcome, 4);
-SIZE(converted, 12); SIZE(file_test, 6); SIZE(reading, 72); SIZE(exchanged, 16); SIZE(needed, 24);
+SIZE(sample, 44); SIZE(sums, 48); SIZE(core, 80); SIZE(state, 880); SIZE(answer, 16); SIZE(offered, 896); SIZE(record, 28); SIZE(outcome, 4);
+SIZE(converted, 12); SIZE(file_test, 8); SIZE(reading, 80); SIZE(exchanged, 16); SIZE(needed, 24);
 AT(sums, s180, 8); AT(sums, s160, 16); AT(sums, s140, 24); AT(sums, s120, 32); AT(sums, s100, 40);
 AT(core, sums, 0); AT(core, along, 48); AT(core, mode, 52); AT(core, command, 56); AT(core, seen, 60); AT(core, red, 62); AT(core, amber, 64);
-AT(core, voice, 66); AT(core, guidance, 68); AT(core, place, 70); AT(state, held, 0); AT(state, core, 800); AT(answer, guidance, 6); AT(answer, shear, 12);
-AT(offered, state, 16); AT(record, height, 12); AT(record, vs1, 20); AT(record, deselect, 23); AT(outcome, place, 2); AT(file_test, count, 4);
+AT(core, voice, 66); AT(core, guidance, 68); AT(core, place, 70); AT(core, frame, 72); AT(state, held, 0); AT(state, core, 800); AT(answer, guidance, 6); AT(answer, shear, 12);
+AT(offered, state, 16); AT(record, height, 12); AT(record, vs1, 20); AT(record, deselect, 23); AT(record, frame, 24); AT(outcome, place, 2);
+AT(file_test, count, 4); AT(file_test, version, 6); AT(sample, deselect, 36); AT(sample, frame, 40);
 AT(converted, finite, 0); AT(converted, exact, 2); AT(converted, cut, 4); AT(converted, hundredths, 8);
-AT(reading, found, 0); AT(reading, refusal, 2); AT(reading, exact, 4); AT(reading, record, 8); AT(reading, sample, 32);
+AT(reading, found, 0); AT(reading, refusal, 2); AT(reading, exact, 4); AT(reading, record, 8); AT(reading, sample, 36);
 AT(exchanged, place, 0); AT(exchanged, refusal, 8); AT(needed, length, 0); AT(needed, place, 8); AT(needed, refusal, 16);
 _Static_assert(_Alignof(struct windshear_state) == 8 && _Alignof(struct windshear_offered) == 8 && _Alignof(struct windshear_reading) == 4, "alignment");
-/* a state has no padding: its size is that of its fields */
-_Static_assert(sizeof(struct windshear_state) == 200 * 4 + 6 * 8 + 3 * 4 + 6 * 2, "padding");
+/* a state's padding is at its end: up to there its size is that of its fields */
+_Static_assert(sizeof(struct windshear_state) == 200 * 4 + 6 * 8 + 3 * 4 + 7 * 2 + 6, "padding");
 
-/* where a record starts in a file, from the file's start; after the last, the file's length */
+/* where a record starts in a file, from the file's start; after the last, the file's length; in version 1, and in version 2 */
 #define START(place) (WINDSHEAR_HEADER_SIZE + WINDSHEAR_RECORD_SIZE * (size_t)(place))
+#define START_2(place) (WINDSHEAR_HEADER_SIZE + WINDSHEAR_RECORD_SIZE_2 * (size_t)(place))
 
 static int checks, wrong;
 
@@ -31,19 +33,36 @@ static void check(int ok, const char *what) {
 }
 
 static int same_state(const struct windshear_state *a, const struct windshear_state *b) {
-    return memcmp(a, b, sizeof *a) == 0;
+    const struct windshear_core *c = &a->core, *d = &b->core;
+    return memcmp(a->held, b->held, sizeof a->held) == 0 && memcmp(&c->sums, &d->sums, sizeof c->sums) == 0 && c->along == d->along && c->mode == d->mode
+           && c->command == d->command && c->seen == d->seen && c->red == d->red && c->amber == d->amber && c->voice == d->voice && c->guidance == d->guidance
+           && c->place == d->place && c->frame == d->frame;
+}
+
+/* A sample and a record have their fields before their padding, which is after the frame number. */
+static int same_sample(struct windshear_sample a, struct windshear_sample b) {
+    return memcmp(&a, &b, offsetof(struct windshear_sample, frame) + sizeof a.frame) == 0;
+}
+
+static int same_record(struct windshear_record a, struct windshear_record b) {
+    return memcmp(&a, &b, offsetof(struct windshear_record, frame) + sizeof a.frame) == 0;
+}
+
+/* The sample so many frames after the last that a state has accepted. */
+static struct windshear_sample after(const struct windshear_state *state, int frames, struct windshear_sample s) {
+    s.frame = (uint16_t)(state->core.frame + frames);
+    return s;
 }
 
 static int same_answer(struct windshear_answer a, struct windshear_answer b) {
     return a.refusal == b.refusal && a.alert == b.alert && a.voice == b.voice && a.guidance == b.guidance && a.command == b.command && a.shear == b.shear;
 }
 
-/* No record, and this refusal. A reading has padding; a record and a sample have none. */
+/* No record, and this refusal. */
 static int unread(struct windshear_reading r, int refusal) {
     static const struct windshear_record no_record;
     static const struct windshear_sample no_sample;
-    return r.found == 0 && r.refusal == refusal && r.exact == 0 && memcmp(&r.record, &no_record, sizeof no_record) == 0
-           && memcmp(&r.sample, &no_sample, sizeof no_sample) == 0;
+    return r.found == 0 && r.refusal == refusal && r.exact == 0 && same_record(r.record, no_record) && same_sample(r.sample, no_sample);
 }
 
 static const struct windshear_sample calm = {.airspeed = 14000, .height = 400, .pitch = 5000, .stall = 20000, .climb = -700, .vs1 = 10000, .mode = 1};
@@ -63,6 +82,7 @@ static struct windshear_sample exposed(int i) {
     s.height = i % 40 ? 400 : 1200;
     s.mode = i / 170 % 2;
     s.deselect = i % 290 == 289;
+    s.frame = (uint16_t)i;
     return s;
 }
 
@@ -121,11 +141,11 @@ static void tested(struct windshear_state state, int refused, const char *what) 
     const struct windshear_state before = state;
     struct windshear_answer want = nothing;
     want.refusal = WINDSHEAR_REFUSED_STATE;
-    struct windshear_offered o = windshear_offer(state, calm);
-    struct windshear_answer a = windshear_offer_lent(&state, calm);
+    struct windshear_offered o = windshear_offer(state, after(&before, 1, calm));
+    struct windshear_answer a = windshear_offer_lent(&state, after(&before, 1, calm));
     check((a.refusal == WINDSHEAR_REFUSED_STATE) == refused && same_answer(o.answer, a) && same_state(&o.state, &state), what);
     check(!refused || (same_answer(a, want) && same_state(&state, &before)), "a state that 8 refuses is left");
-    check(refused || windshear_offer_lent(&state, calm).refusal == WINDSHEAR_ACCEPTED, "what a sample leaves passes again");
+    check(refused || windshear_offer_lent(&state, after(&state, 20, calm)).refusal == WINDSHEAR_ACCEPTED, "what a sample leaves passes again");
 }
 
 /* Each field of a state at its limit and one beyond, from a ring of zeros and from one at its limits that is turned. */
@@ -153,6 +173,12 @@ static void state_fields(void) {
                 else *counter[i - 3] = (uint16_t)(600 + beyond);
                 tested(state, beyond, "8 by one field of the state");
             }
+        }
+        static const uint16_t frames[] = {0, 1, 600, 601, 32768, 65535};
+        for (size_t k = 0; k < sizeof frames / sizeof *frames; k++) {
+            struct windshear_state state = base;
+            state.core.frame = frames[k];
+            tested(state, 0, "the kept frame number is no counter");
         }
         for (int i = 0; i < 6; i++) {
             static const int64_t off[] = {1, -1, INT64_C(1) << 32, -(INT64_C(1) << 32)};
@@ -196,7 +222,8 @@ static void host_built(void) {
             struct windshear_state *ring = &rings[place];
             if (i > 300) check(same_answer(windshear_offer_lent(ring, s), a), "a built ring answers as the unit's own");
             struct windshear_state anew = built(entry, i > 300 ? ring->core.place : (uint16_t)place, s);
-            check(anew.core.seen == state.core.seen && anew.core.along == state.core.along && anew.core.mode == state.core.mode, "the last sample is kept");
+            check(anew.core.seen == state.core.seen && anew.core.along == state.core.along && anew.core.mode == state.core.mode
+                  && anew.core.frame == state.core.frame, "the last sample is kept");
             struct windshear_core core = state.core;
             core.sums = anew.core.sums;
             core.place = anew.core.place;
@@ -225,10 +252,10 @@ static void entries_cut(void) {
         int32_t entry[200] = {0};
         entry[57] = sign * 2098349;
         struct windshear_state state = built(entry, 23, calm);
-        check(windshear_offer_lent(&state, calm).alert == (sign > 0 ? WINDSHEAR_ALERT_RED : WINDSHEAR_ALERT_AMBER), "a host's entry is not cut");
+        check(windshear_offer_lent(&state, after(&state, 1, calm)).alert == (sign > 0 ? WINDSHEAR_ALERT_RED : WINDSHEAR_ALERT_AMBER), "a host's entry is not cut");
         entry[57] = cut(entry[57]);
         state = built(entry, 23, calm);
-        check(windshear_offer_lent(&state, calm).alert == WINDSHEAR_ALERT_NONE, "cut by the host, it lights nothing");
+        check(windshear_offer_lent(&state, after(&state, 1, calm)).alert == WINDSHEAR_ALERT_NONE, "cut by the host, it lights nothing");
     }
 }
 
@@ -253,14 +280,14 @@ static void refused_while_lit(void) {
     struct windshear_sample s = calm;
     s.vertical = -2940;
     for (int i = 0; i < 100; i++)
-        check(windshear_offer_lent(&state, s).alert == (i < 99 ? WINDSHEAR_ALERT_NONE : WINDSHEAR_ALERT_RED), "red is lit by five seconds of 0.2100");
+        check(windshear_offer_lent(&state, after(&state, 1, s)).alert == (i < 99 ? WINDSHEAR_ALERT_NONE : WINDSHEAR_ALERT_RED), "red is lit by five seconds of 0.2100");
     struct windshear_state before = state;
     struct windshear_answer want = nothing;
     want.refusal = WINDSHEAR_REFUSED_ALONG;
     s.along = 20001;
     check(same_answer(windshear_offer_lent(&state, s), want) && same_state(&state, &before), "a refused answer shows no alert");
     s.along = 0;
-    check(windshear_offer_lent(&state, s).alert == WINDSHEAR_ALERT_RED && state.core.red == 2, "and the lamp stayed lit");
+    check(windshear_offer_lent(&state, after(&state, 1, s)).alert == WINDSHEAR_ALERT_RED && state.core.red == 2, "and the lamp stayed lit");
 }
 
 /* Whether ten bytes of a run show this answer. */
@@ -272,12 +299,12 @@ static int shows(const uint8_t *ten, struct windshear_answer a) {
 
 /* Writes the run file of some samples, the floats nearest their hundredths: a quotient of whole numbers is rounded once. */
 static void write_file(uint8_t *file, const struct windshear_sample *samples, size_t count) {
-    check(windshear_write_header((uint32_t)count, file, WINDSHEAR_HEADER_SIZE) == WINDSHEAR_ACCEPTED, "the header is written");
+    check(windshear_write_header(1, (uint32_t)count, file, WINDSHEAR_HEADER_SIZE) == WINDSHEAR_ACCEPTED, "the header is written");
     for (size_t i = 0; i < count; i++) {
         const struct windshear_sample s = samples[i];
         const struct windshear_record r = {(float)s.along / 100, (float)s.vertical / 100, (float)s.airspeed / 100, (int16_t)s.height, (int16_t)s.pitch,
-                                           (int16_t)s.stall, (int16_t)s.climb, (uint16_t)s.vs1, (uint8_t)s.mode, (uint8_t)s.deselect};
-        check(windshear_write_record(r, file + START(i), WINDSHEAR_RECORD_SIZE) == WINDSHEAR_ACCEPTED, "the record is written");
+                                           (int16_t)s.stall, (int16_t)s.climb, (uint16_t)s.vs1, (uint8_t)s.mode, (uint8_t)s.deselect, s.frame};
+        check(windshear_write_record(1, r, file + START(i), WINDSHEAR_RECORD_SIZE) == WINDSHEAR_ACCEPTED, "the record is written");
     }
 }
 
@@ -311,9 +338,9 @@ static void three_records(void) {
     uint8_t *const file = room + 1;
     const size_t length = sizeof room - 1;
     uint8_t answers[3 * WINDSHEAR_ANSWER_SIZE], before[sizeof answers];
-    check(windshear_write_header(3, file, WINDSHEAR_HEADER_SIZE) == WINDSHEAR_ACCEPTED, "the header is written");
+    check(windshear_write_header(1, 3, file, WINDSHEAR_HEADER_SIZE) == WINDSHEAR_ACCEPTED, "the header is written");
     for (int i = 0; i < 3; i++) {
-        struct windshear_sample s = calm;
+        struct windshear_sample s = after(&lent, 1, calm);
         s.along = (int32_t)(100 * along[i]);
         s.vertical = (int32_t)(100 * vertical[i]);
         struct windshear_answer a = windshear_offer_lent(&lent, s);
@@ -321,10 +348,10 @@ static void three_records(void) {
         plain = o.state;
         check(same_answer(a, want[i]), "01's answer, lent");
         check(same_answer(o.answer, a) && same_state(&lent, &plain), "both forms agree");
-        struct windshear_record r = {along[i], vertical[i], 140, 400, 5000, 20000, -700, 10000, 1, 0};
-        check(windshear_write_record(r, file + START(i), WINDSHEAR_RECORD_SIZE) == WINDSHEAR_ACCEPTED, "the record is written");
+        struct windshear_record r = {along[i], vertical[i], 140, 400, 5000, 20000, -700, 10000, 1, 0, 0};
+        check(windshear_write_record(1, r, file + START(i), WINDSHEAR_RECORD_SIZE) == WINDSHEAR_ACCEPTED, "the record is written");
         struct windshear_file_test early = windshear_test_file(file, START(i + 1));
-        check(early.refusal == (i < 2 ? WINDSHEAR_REFUSED_LENGTH : WINDSHEAR_ACCEPTED) && early.place == 0 && early.count == (i < 2 ? 0 : 3), "a file's own test");
+        check(early.refusal == (i < 2 ? WINDSHEAR_REFUSED_LENGTH : WINDSHEAR_ACCEPTED) && early.place == 0 && early.count == (i < 2 ? 0 : 3) && early.version == (i < 2 ? 0 : 1), "a file's own test");
     }
     struct windshear_outcome good = windshear_run(file, length, answers, sizeof answers);
     check(good.refusal == WINDSHEAR_ACCEPTED && good.place == 0, "the run is accepted");
@@ -337,9 +364,9 @@ static void three_records(void) {
               && r.record.mode == 1 && r.record.deselect == 0, "a record is read as it was written");
         check(r.sample.along == (int32_t)(100 * along[i]) && r.sample.vertical == (int32_t)(100 * vertical[i]) && r.sample.airspeed == calm.airspeed
               && r.sample.height == calm.height && r.sample.pitch == calm.pitch && r.sample.stall == calm.stall && r.sample.climb == calm.climb
-              && r.sample.vs1 == calm.vs1 && r.sample.mode == calm.mode && r.sample.deselect == 0, "and its sample");
+              && r.sample.vs1 == calm.vs1 && r.sample.mode == calm.mode && r.sample.deselect == 0 && r.record.frame == 0 && r.sample.frame == i, "and its sample, numbered by its place");
         uint8_t again[WINDSHEAR_RECORD_SIZE];
-        check(windshear_write_record(r.record, again, sizeof again) == WINDSHEAR_ACCEPTED && memcmp(again, file + START(i), sizeof again) == 0, "and written as it was read");
+        check(windshear_write_record(1, r.record, again, sizeof again) == WINDSHEAR_ACCEPTED && memcmp(again, file + START(i), sizeof again) == 0, "and written as it was read");
     }
     memcpy(before, answers, sizeof answers);
     file[START(1) + offsetof(struct windshear_record, mode)] = 2;
@@ -349,7 +376,7 @@ static void three_records(void) {
     bad = windshear_run(file, length, answers, sizeof answers - 1);
     check(bad.refusal == WINDSHEAR_REFUSED_BUFFER && bad.place == 0 && memcmp(before, answers, sizeof answers) == 0, "7 comes before the records");
     struct windshear_file_test test = windshear_test_file(file, length);
-    check(test.refusal == WINDSHEAR_REFUSED_MODE && test.place == 1 && test.count == 0, "the file's own test says the same, and no count");
+    check(test.refusal == WINDSHEAR_REFUSED_MODE && test.place == 1 && test.count == 0 && test.version == 0, "the file's own test says the same, and no count");
     static const struct { size_t place; int found, refusal; } places[] = {{0, 1, 0}, {1, 0, WINDSHEAR_REFUSED_MODE}, {2, 1, 0}, {3, 0, 0}, {SIZE_MAX, 0, 0}};
     for (size_t i = 0; i < sizeof places / sizeof *places; i++) {
         struct windshear_reading r = windshear_read_record(file, length, places[i].place);
@@ -397,7 +424,7 @@ static void refused_file(const uint8_t *file, size_t file_length, int refusal, s
 /* The first six numbers, by a file's own test and at every place alike. */
 static void headers(void) {
     uint8_t good[WINDSHEAR_HEADER_SIZE], file[sizeof good];
-    check(windshear_write_header(0, good, sizeof good) == WINDSHEAR_ACCEPTED, "the header of no records");
+    check(windshear_write_header(1, 0, good, sizeof good) == WINDSHEAR_ACCEPTED, "the header of no records");
     for (int number = 0; number < 7; number++) {
         memcpy(file, good, sizeof good);
         if (number == WINDSHEAR_REFUSED_MARK) file[1] = 's';
@@ -416,7 +443,7 @@ static void headers(void) {
 /* A file or a buffer of length 0, at any address: here a byte that is left as it was. */
 static void lengths_of_zero(void) {
     uint8_t file[WINDSHEAR_HEADER_SIZE], byte = 0xa5;
-    check(windshear_write_header(0, file, sizeof file) == WINDSHEAR_ACCEPTED, "the header of no records");
+    check(windshear_write_header(1, 0, file, sizeof file) == WINDSHEAR_ACCEPTED, "the header of no records");
     /* the lines that the header shows */
 #include <none.inc>
     check(outcome.refusal == WINDSHEAR_ACCEPTED && outcome.place == 0 && none == 0, "a run of count 0 is good");
@@ -429,10 +456,10 @@ static void lengths_of_zero(void) {
     const struct windshear_file_test test = windshear_test_file(&byte, 0);
     check(test.refusal == WINDSHEAR_REFUSED_SHORT && test.place == 0 && test.count == 0, "by its own test");
     check(unread(windshear_read_record(&byte, 0, 0), WINDSHEAR_REFUSED_SHORT), "and at a place");
-    check(windshear_write_header(0, &byte, 0) == WINDSHEAR_REFUSED_BUFFER && windshear_write_header(WINDSHEAR_MAX_RECORDS + 1, &byte, 0) == WINDSHEAR_REFUSED_COUNT,
+    check(windshear_write_header(1, 0, &byte, 0) == WINDSHEAR_REFUSED_BUFFER && windshear_write_header(1, WINDSHEAR_MAX_RECORDS + 1, &byte, 0) == WINDSHEAR_REFUSED_COUNT,
           "no header is written");
-    const struct windshear_record record = {0, 0, 140, 400, 5000, 20000, -700, 10000, 1, 0};
-    check(windshear_write_record(record, &byte, 0) == WINDSHEAR_REFUSED_BUFFER, "no record is written");
+    const struct windshear_record record = {0, 0, 140, 400, 5000, 20000, -700, 10000, 1, 0, 0};
+    check(windshear_write_record(1, record, &byte, 0) == WINDSHEAR_REFUSED_BUFFER, "no record is written");
     struct windshear_needed needed = windshear_import_length(&byte, 0);
     struct windshear_exchanged exchanged = windshear_import(&byte, 0, &none, 0);
     check(needed.refusal == WINDSHEAR_REFUSED_CSV_HEADER && needed.length == 0 && exchanged.refusal == WINDSHEAR_REFUSED_CSV_HEADER, "an empty text is refused by 23");
@@ -447,13 +474,13 @@ static void writers(void) {
     uint8_t buffer[WINDSHEAR_RECORD_SIZE + 1];
     const size_t shorter = WINDSHEAR_HEADER_SIZE - 1;
     memset(buffer, 0xa5, sizeof buffer);
-    check(windshear_write_header(WINDSHEAR_MAX_RECORDS + 1, buffer, shorter) == WINDSHEAR_REFUSED_COUNT
-          && windshear_write_header(WINDSHEAR_MAX_RECORDS, buffer, shorter) == WINDSHEAR_REFUSED_BUFFER, "5, then 7");
-    struct windshear_record r = {0, 0, 140, 400, 5000, 20000, -700, 10000, 1, 2};
-    check(windshear_write_record(r, buffer, sizeof buffer) == WINDSHEAR_REFUSED_BUFFER
-          && windshear_write_record(r, buffer, WINDSHEAR_RECORD_SIZE) == WINDSHEAR_REFUSED_DESELECT, "7, then 20");
+    check(windshear_write_header(1, WINDSHEAR_MAX_RECORDS + 1, buffer, shorter) == WINDSHEAR_REFUSED_COUNT
+          && windshear_write_header(1, WINDSHEAR_MAX_RECORDS, buffer, shorter) == WINDSHEAR_REFUSED_BUFFER, "5, then 7");
+    struct windshear_record r = {0, 0, 140, 400, 5000, 20000, -700, 10000, 1, 2, 0};
+    check(windshear_write_record(1, r, buffer, sizeof buffer) == WINDSHEAR_REFUSED_BUFFER
+          && windshear_write_record(1, r, buffer, WINDSHEAR_RECORD_SIZE) == WINDSHEAR_REFUSED_DESELECT, "7, then 20");
     r.along = __builtin_nanf("");
-    check(windshear_write_record(r, buffer, WINDSHEAR_RECORD_SIZE) == WINDSHEAR_REFUSED_ALONG, "a float that is no number");
+    check(windshear_write_record(1, r, buffer, WINDSHEAR_RECORD_SIZE) == WINDSHEAR_REFUSED_ALONG, "a float that is no number");
     for (size_t i = 0; i < sizeof buffer; i++) check(buffer[i] == 0xa5, "a refused write leaves the buffer");
 }
 
@@ -518,7 +545,7 @@ static void exact_records(void) {
     uint8_t file[START(COUNT)], answers[COUNT * WINDSHEAR_ANSWER_SIZE];
     float knots[COUNT][3];
     struct windshear_sample sample[COUNT];
-    check(windshear_write_header(COUNT, file, WINDSHEAR_HEADER_SIZE) == WINDSHEAR_ACCEPTED, "the header is written");
+    check(windshear_write_header(1, COUNT, file, WINDSHEAR_HEADER_SIZE) == WINDSHEAR_ACCEPTED, "the header is written");
     for (int i = 0; i < COUNT; i++) {
         int32_t speed[3];
         for (int k = 0; k < 3; k++) {
@@ -527,9 +554,10 @@ static void exact_records(void) {
             speed[k] = is_rounded ? rounded[i / 8].hundredths[k] : whole.hundredths[k];
         }
         sample[i] = calm;
+        sample[i].frame = (uint16_t)i;
         sample[i].along = speed[0], sample[i].vertical = speed[1], sample[i].airspeed = speed[2];
-        const struct windshear_record r = {knots[i][0], knots[i][1], knots[i][2], 400, 5000, 20000, -700, 10000, 1, 0};
-        check(windshear_write_record(r, file + START(i), WINDSHEAR_RECORD_SIZE) == WINDSHEAR_ACCEPTED, "a record with rounded floats is written");
+        const struct windshear_record r = {knots[i][0], knots[i][1], knots[i][2], 400, 5000, 20000, -700, 10000, 1, 0, 0};
+        check(windshear_write_record(1, r, file + START(i), WINDSHEAR_RECORD_SIZE) == WINDSHEAR_ACCEPTED, "a record with rounded floats is written");
     }
     const struct windshear_outcome outcome = windshear_run(file, sizeof file, answers, sizeof answers);
     check(outcome.refusal == WINDSHEAR_ACCEPTED && outcome.place == 0, "and run");
@@ -537,7 +565,7 @@ static void exact_records(void) {
     for (int i = 0; i < COUNT; i++) {
         const struct windshear_reading r = windshear_read_record(file, sizeof file, (size_t)i);
         check(r.found == 1 && r.refusal == WINDSHEAR_ACCEPTED && r.exact == (i % 8 == 0), "a record is exact where its three floats are");
-        check(memcmp(&r.record, knots[i], sizeof knots[i]) == 0 && memcmp(&r.sample, &sample[i], sizeof sample[i]) == 0, "its floats, and its hundredths");
+        check(memcmp(&r.record, knots[i], sizeof knots[i]) == 0 && same_sample(r.sample, sample[i]), "its floats, and its hundredths");
         check(shows(answers + WINDSHEAR_ANSWER_SIZE * i, windshear_offer_lent(&state, sample[i])), "which the run takes");
     }
     /* the same records refused, by their last byte and then by their first float: they are not exact */
@@ -761,14 +789,14 @@ static void exported_files(void) {
     static const struct { float knots; int32_t hundredths; } of[] = {{0.125f, 13}, {-0.125f, -13}, {-0.0f, 0}, {0x1p-149f, 0}, {-0.004f, 0}, {-0.996f, -100},
                                                                      {0.09f, 9}, {-0.5f, -50}, {99.996f, 10000}, {-100.004f, -10000}};
     uint8_t file[START(2)];
-    check(windshear_write_header(2, file, WINDSHEAR_HEADER_SIZE) == WINDSHEAR_ACCEPTED, "the header is written");
+    check(windshear_write_header(1, 2, file, WINDSHEAR_HEADER_SIZE) == WINDSHEAR_ACCEPTED, "the header is written");
     for (size_t k = 0; k < sizeof of / sizeof *of; k++) {
         struct windshear_sample s = calm;
         s.along = s.vertical = of[k].hundredths;
-        const struct windshear_record r = {of[k].knots, of[k].knots, 140, 400, 5000, 20000, -700, 10000, 1, 0};
+        const struct windshear_record r = {of[k].knots, of[k].knots, 140, 400, 5000, 20000, -700, 10000, 1, 0, 0};
         begin();
         for (int i = 0; i < 2; i++) {
-            check(windshear_write_record(r, file + START(i), WINDSHEAR_RECORD_SIZE) == WINDSHEAR_ACCEPTED, "the record is written");
+            check(windshear_write_record(1, r, file + START(i), WINDSHEAR_RECORD_SIZE) == WINDSHEAR_ACCEPTED, "the record is written");
             add_line(s, 10, "%s");
         }
         exports(file, sizeof file);
@@ -815,6 +843,81 @@ static void listed(void) {
     all_lit();
 }
 
+/* Frames: a lone sample stands for those elapsed, 1 to 20, and is refused by 21 otherwise, after its fields; a run of version 2 answers as the lone
+ * samples, is refused at the place of 21, and is not exported. The numbers go round on the way. */
+static void frames(void) {
+    enum { COUNT = 600 };
+    static uint8_t file[START_2(COUNT)], answers[COUNT * WINDSHEAR_ANSWER_SIZE], before[sizeof answers];
+    static struct windshear_sample samples[COUNT];
+    struct windshear_state lent = windshear_fresh(), plain = lent;
+    check(windshear_write_header(2, COUNT, file, WINDSHEAR_HEADER_SIZE) == WINDSHEAR_ACCEPTED && file[3] == 2, "the header of version 2 is written");
+    uint16_t frame = 65000;
+    for (int i = 0; i < COUNT; i++) {
+        samples[i] = exposed(i);
+        frame = (uint16_t)(frame + 1 + i % 4 * (i % 23) % 20);
+        samples[i].frame = frame;
+        const struct windshear_sample s = samples[i];
+        const struct windshear_record r = {(float)s.along / 100, (float)s.vertical / 100, (float)s.airspeed / 100, (int16_t)s.height, (int16_t)s.pitch,
+                                           (int16_t)s.stall, (int16_t)s.climb, (uint16_t)s.vs1, (uint8_t)s.mode, (uint8_t)s.deselect, s.frame};
+        check(windshear_write_record(2, r, file + START_2(i), WINDSHEAR_RECORD_SIZE_2) == WINDSHEAR_ACCEPTED, "a record of version 2 is written");
+    }
+    const struct windshear_file_test test = windshear_test_file(file, sizeof file);
+    check(test.refusal == WINDSHEAR_ACCEPTED && test.count == COUNT && test.version == 2, "a file of version 2");
+    struct windshear_outcome outcome = windshear_run(file, sizeof file, answers, sizeof answers);
+    check(outcome.refusal == WINDSHEAR_ACCEPTED && outcome.place == 0, "the run of version 2 is accepted");
+    for (int i = 0; i < COUNT; i++) {
+        static const int off[] = {0, 21, 22, 32768, 65535};
+        for (size_t k = 0; i > 0 && k < sizeof off / sizeof *off; k++) {
+            struct windshear_sample late = after(&lent, off[k], samples[i]);
+            struct windshear_answer want = nothing;
+            want.refusal = WINDSHEAR_REFUSED_FRAMES;
+            check(same_answer(windshear_offer_lent(&lent, late), want) && same_state(&lent, &plain), "21, and the state is left");
+            late.deselect = 2;
+            check(windshear_offer_lent(&lent, late).refusal == WINDSHEAR_REFUSED_DESELECT && same_state(&lent, &plain), "20 before it");
+        }
+        const int place = lent.core.place, elapsed = i ? (uint16_t)(samples[i].frame - lent.core.frame) : 1;
+        const struct windshear_answer a = windshear_offer_lent(&lent, samples[i]);
+        const struct windshear_offered o = windshear_offer(plain, samples[i]);
+        plain = o.state;
+        tally(a);
+        check(same_answer(o.answer, a) && same_state(&lent, &plain) && lent.core.frame == samples[i].frame, "both forms agree");
+        check(lent.core.place == (place + 200 - elapsed) % 200, "the ring is turned by the frames");
+        for (int k = 0; k < elapsed; k++) check(lent.held[(lent.core.place + k) % 200] == cut(a.shear), "the shear enters once for each");
+        check(shows(answers + WINDSHEAR_ANSWER_SIZE * i, a), "a run of version 2 answers as lone samples");
+        const struct windshear_reading r = windshear_read_record(file, sizeof file, (size_t)i);
+        check(r.found == 1 && r.record.frame == samples[i].frame && same_sample(r.sample, samples[i]), "a record and its sample have their number");
+        uint8_t again[WINDSHEAR_RECORD_SIZE_2];
+        check(windshear_write_record(2, r.record, again, sizeof again) == WINDSHEAR_ACCEPTED && memcmp(again, file + START_2(i), sizeof again) == 0, "and are written as read");
+    }
+    all_lit();
+    memcpy(before, answers, sizeof answers);
+    file[START_2(58) - 1] ^= 1;
+    outcome = windshear_run(file, sizeof file, answers, sizeof answers);
+    check(outcome.refusal == WINDSHEAR_REFUSED_FRAMES && outcome.place == 57 && memcmp(before, answers, sizeof answers) == 0, "21 at its place");
+    check(windshear_read_record(file, sizeof file, 57).found == 1, "where a record alone is read");
+    check(windshear_export_length(file, sizeof file).refusal == WINDSHEAR_REFUSED_VERSION && windshear_export(file, sizeof file, lend(8), 8).refusal == WINDSHEAR_REFUSED_VERSION
+          && holds(8, "", 0), "version 2 is not exported");
+}
+
+/* The versions that there are, and others: 3, then 5, then 7; of a record 3, then 7. */
+static void versions(void) {
+    static const uint32_t version[] = {0, 1, 2, 3, 65535, 65537, 65538, UINT32_MAX};
+    const struct windshear_record r = {0, 0, 140, 400, 5000, 20000, -700, 10000, 1, 0, 7};
+    for (size_t k = 0; k < sizeof version / sizeof *version; k++) {
+        const int known = version[k] == 1 || version[k] == 2, is_2 = version[k] == 2;
+        const uint32_t most = is_2 ? WINDSHEAR_MAX_RECORDS_2 : WINDSHEAR_MAX_RECORDS;
+        const size_t size = is_2 ? WINDSHEAR_RECORD_SIZE_2 : WINDSHEAR_RECORD_SIZE;
+        for (size_t length = 0; length < 30; length++)
+            for (uint32_t count = most - 1; count <= most + 1; count++) {
+                const int want = !known ? WINDSHEAR_REFUSED_VERSION : count > most ? WINDSHEAR_REFUSED_COUNT : length != WINDSHEAR_HEADER_SIZE ? WINDSHEAR_REFUSED_BUFFER : 0;
+                const uint8_t header[] = {'W', 'S', 'R', (uint8_t)version[k], 0, 0, (uint8_t)count, (uint8_t)(count >> 8)};
+                check(windshear_write_header(version[k], count, lend(length), length) == want && holds(length, header, want ? 0 : length), "a header by its version");
+                const int refusal = !known ? WINDSHEAR_REFUSED_VERSION : length != size ? WINDSHEAR_REFUSED_BUFFER : 0;
+                check(windshear_write_record(version[k], r, lend(length), length) == refusal && holds(length, lent, refusal ? 0 : length), "a record by its version");
+            }
+    }
+}
+
 int main(void) {
     sample_fields();
     state_fields();
@@ -834,6 +937,8 @@ int main(void) {
     texts();
     exported_files();
     listed();
+    frames();
+    versions();
     printf("answers in lists: red %d, amber %d, with voice %d, with guidance %d, beyond the cut %d\n", in_all.red, in_all.amber, in_all.voice, in_all.guidance,
            in_all.gust);
     printf("floats: exact %d, rounded %d, cut %d\n", seen.exact, seen.rounded, seen.cut);

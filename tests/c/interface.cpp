@@ -9,13 +9,14 @@
 #include <string>
 #include <vector>
 
-static_assert(sizeof(windshear_sums) == 48 && sizeof(windshear_core) == 72 && sizeof(windshear_state) == 872 && sizeof(windshear_offered) == 888, "sizes");
-static_assert(offsetof(windshear_sums, s100) == 40 && offsetof(windshear_core, along) == 48 && offsetof(windshear_core, place) == 70
+static_assert(sizeof(windshear_sums) == 48 && sizeof(windshear_core) == 80 && sizeof(windshear_state) == 880 && sizeof(windshear_offered) == 896, "sizes");
+static_assert(offsetof(windshear_sums, s100) == 40 && offsetof(windshear_core, along) == 48 && offsetof(windshear_core, place) == 70 && offsetof(windshear_core, frame) == 72
               && offsetof(windshear_state, core) == 800 && offsetof(windshear_offered, state) == 16, "places");
 static_assert(sizeof(windshear_converted) == 12 && offsetof(windshear_converted, exact) == 2 && offsetof(windshear_converted, cut) == 4
               && offsetof(windshear_converted, hundredths) == 8, "a float's conversion");
-static_assert(sizeof(windshear_reading) == 72 && offsetof(windshear_reading, exact) == 4 && offsetof(windshear_reading, record) == 8
-              && offsetof(windshear_reading, sample) == 32, "a reading");
+static_assert(sizeof(windshear_reading) == 80 && offsetof(windshear_reading, exact) == 4 && offsetof(windshear_reading, record) == 8
+              && offsetof(windshear_reading, sample) == 36, "a reading");
+static_assert(sizeof(windshear_sample) == 44 && sizeof(windshear_record) == 28 && offsetof(windshear_record, frame) == 24 && sizeof(windshear_file_test) == 8, "frames");
 static_assert(sizeof(windshear_exchanged) == 16 && offsetof(windshear_exchanged, refusal) == 8, "an exchange");
 static_assert(sizeof(windshear_needed) == 24 && offsetof(windshear_needed, place) == 8 && offsetof(windshear_needed, refusal) == 16, "what it needs");
 static_assert(alignof(windshear_state) == 8 && alignof(windshear_offered) == 8, "alignment");
@@ -37,7 +38,7 @@ static bool same(const windshear_answer &a, const windshear_answer &b) {
 /* Two samples, or two records. */
 template <class T> static bool same_fields(const T &a, const T &b) {
     return a.along == b.along && a.vertical == b.vertical && a.airspeed == b.airspeed && a.height == b.height && a.pitch == b.pitch && a.stall == b.stall
-           && a.climb == b.climb && a.vs1 == b.vs1 && a.mode == b.mode && a.deselect == b.deselect;
+           && a.climb == b.climb && a.vs1 == b.vs1 && a.mode == b.mode && a.deselect == b.deselect && a.frame == b.frame;
 }
 
 /* No record, and this refusal. */
@@ -77,11 +78,11 @@ static void exact_records() {
     std::vector<uint8_t> file(start(count));
     std::vector<windshear_record> records;
     std::vector<windshear_sample> samples;
-    check(windshear_write_header(count, file.data(), WINDSHEAR_HEADER_SIZE) == WINDSHEAR_ACCEPTED, "the header is written");
+    check(windshear_write_header(1, count, file.data(), WINDSHEAR_HEADER_SIZE) == WINDSHEAR_ACCEPTED, "the header is written");
     for (int i = 0; i < count; i++) {
-        records.push_back({i & 1 ? 0.1f : -0.0f, i & 2 ? -29.4f : -29.5f, i & 4 ? 140.1f : 140.25f, 400, 5000, 20000, -700, 10000, 1, 0});
-        samples.push_back({i & 1 ? 10 : 0, i & 2 ? -2940 : -2950, i & 4 ? 14010 : 14025, 400, 5000, 20000, -700, 10000, 1, 0});
-        check(windshear_write_record(records[i], file.data() + start(i), WINDSHEAR_RECORD_SIZE) == WINDSHEAR_ACCEPTED, "a record with rounded floats is written");
+        records.push_back({i & 1 ? 0.1f : -0.0f, i & 2 ? -29.4f : -29.5f, i & 4 ? 140.1f : 140.25f, 400, 5000, 20000, -700, 10000, 1, 0, 0});
+        samples.push_back({i & 1 ? 10 : 0, i & 2 ? -2940 : -2950, i & 4 ? 14010 : 14025, 400, 5000, 20000, -700, 10000, 1, 0, static_cast<uint16_t>(i)});
+        check(windshear_write_record(1, records[i], file.data() + start(i), WINDSHEAR_RECORD_SIZE) == WINDSHEAR_ACCEPTED, "a record with rounded floats is written");
     }
     for (int i = 0; i < count; i++) {
         const windshear_reading r = windshear_read_record(file.data(), file.size(), i);
@@ -97,15 +98,15 @@ static void exposed(int32_t vertical, const windshear_answer &last) {
     const int count = 100;
     windshear_state state = windshear_fresh();
     std::vector<uint8_t> file(start(count)), answers(count * WINDSHEAR_ANSWER_SIZE);
-    check(windshear_write_header(count, file.data(), WINDSHEAR_HEADER_SIZE) == WINDSHEAR_ACCEPTED, "the header is written");
+    check(windshear_write_header(1, count, file.data(), WINDSHEAR_HEADER_SIZE) == WINDSHEAR_ACCEPTED, "the header is written");
     for (int i = 0; i < count; i++) {
         windshear_answer want{};
         want.shear = last.shear;
         if (i == count - 1) want = last;
-        const windshear_sample sample{0, vertical, 14000, 400, 5000, 20000, -700, 10000, 1, 0};
+        const windshear_sample sample{0, vertical, 14000, 400, 5000, 20000, -700, 10000, 1, 0, static_cast<uint16_t>(i)};
         check(same(windshear_offer_lent(&state, sample), want), "a lamp is lit by its exposure, and not before");
-        const windshear_record record{0, vertical / 100.0f, 140, 400, 5000, 20000, -700, 10000, 1, 0};
-        check(windshear_write_record(record, file.data() + start(i), WINDSHEAR_RECORD_SIZE) == WINDSHEAR_ACCEPTED, "the record is written");
+        const windshear_record record{0, vertical / 100.0f, 140, 400, 5000, 20000, -700, 10000, 1, 0, 0};
+        check(windshear_write_record(1, record, file.data() + start(i), WINDSHEAR_RECORD_SIZE) == WINDSHEAR_ACCEPTED, "the record is written");
     }
     const windshear_outcome outcome = windshear_run(file.data(), file.size(), answers.data(), answers.size());
     check(outcome.refusal == WINDSHEAR_ACCEPTED && outcome.place == 0, "the run is accepted");
@@ -117,10 +118,34 @@ static void exposed(int32_t vertical, const windshear_answer &last) {
     }
 }
 
+/* The same exposure with frames dropped, each sample standing for five, as a file of version 2 across the number's turn; then 21 at its place. */
+static void frames_dropped() {
+    const int count = 22;
+    const auto at = [](std::size_t place) { return WINDSHEAR_HEADER_SIZE + WINDSHEAR_RECORD_SIZE_2 * place; };
+    windshear_state state = windshear_fresh();
+    std::vector<uint8_t> file(at(count)), answers(count * WINDSHEAR_ANSWER_SIZE);
+    check(windshear_write_header(2, count, file.data(), WINDSHEAR_HEADER_SIZE) == WINDSHEAR_ACCEPTED, "the header of version 2");
+    for (int i = 0; i < count; i++) {
+        /* the first stands for one: 1 + 20 x 5 is the first sum from 100 on */
+        const uint16_t frame = static_cast<uint16_t>(65500 + 5 * i);
+        const windshear_answer answer = windshear_offer_lent(&state, {0, -2940, 14000, 400, 5000, 20000, -700, 10000, 1, 0, frame});
+        check(answer.alert == (i < 20 ? WINDSHEAR_ALERT_NONE : WINDSHEAR_ALERT_RED) && answer.command == (i < 20 ? 0 : 5000 + 375 * (i - 20)), "red after 100 frames");
+        const windshear_record record{0, -29.40f, 140, 400, 5000, 20000, -700, 10000, 1, 0, frame};
+        check(windshear_write_record(2, record, file.data() + at(i), WINDSHEAR_RECORD_SIZE_2) == WINDSHEAR_ACCEPTED, "a record of version 2");
+        check(i < count - 1 || same_fields(windshear_read_record(file.data(), file.size(), i).record, record), "and read back");
+    }
+    check(windshear_test_file(file.data(), file.size()).version == 2, "the file's version");
+    windshear_outcome outcome = windshear_run(file.data(), file.size(), answers.data(), answers.size());
+    check(outcome.refusal == WINDSHEAR_ACCEPTED && answers[10 * 19] == 0 && answers[10 * 20] == WINDSHEAR_ALERT_RED, "and so in the run");
+    file[at(3) - 2] += 16;
+    outcome = windshear_run(file.data(), file.size(), answers.data(), answers.size());
+    check(outcome.refusal == WINDSHEAR_REFUSED_FRAMES && outcome.place == 2, "21 frames are too many");
+}
+
 /* A run of no records, and an empty file, each buffer a byte longer than its length, as the data() of an empty vector may be NULL. */
 static void lengths_of_zero() {
     std::vector<uint8_t> file(start(0) + 1), answers(0 * WINDSHEAR_ANSWER_SIZE + 1, 0xa5);
-    check(windshear_write_header(0, file.data(), file.size() - 1) == WINDSHEAR_ACCEPTED, "the header of no records");
+    check(windshear_write_header(1, 0, file.data(), file.size() - 1) == WINDSHEAR_ACCEPTED, "the header of no records");
     windshear_outcome outcome = windshear_run(file.data(), file.size() - 1, answers.data(), answers.size() - 1);
     check(outcome.refusal == WINDSHEAR_ACCEPTED && outcome.place == 0 && answers[0] == 0xa5, "a run of count 0 is good");
     outcome = windshear_run(file.data(), 0, answers.data(), answers.size() - 1);
@@ -173,7 +198,7 @@ static void texts() {
 #include <imported.inc>
     check(needed.refusal == WINDSHEAR_ACCEPTED && needed.place == 0 && needed.length == start(1), "the header's text has one sample");
     check(imported.refusal == WINDSHEAR_ACCEPTED && imported.place == 0, "and is imported");
-    const windshear_record record{20.10f, -29.40f, 140, 400, 5000, 20000, -700, 10000, 1, 0};
+    const windshear_record record{20.10f, -29.40f, 140, 400, 5000, 20000, -700, 10000, 1, 0, 0};
     check(same_fields(windshear_read_record(file, needed.length, 0).record, record), "its floats are the nearest");
     const auto bytes = [](const std::string &of) { return std::vector<uint8_t>(of.begin(), of.end()); };
     const std::string first = text, second = "0.00,-0.01,60.00,-20,0,-1,0,50.00,0,1\r\n";
@@ -182,8 +207,8 @@ static void texts() {
     gives(run, windshear_export_length, windshear_export, bytes(first));
     lists(run, 3, "sample shear alert voice command float\n0 21000 none 0 off rounded\nred 0 amber 0\n");
     run.resize(start(2));
-    check(windshear_write_header(2, run.data(), WINDSHEAR_HEADER_SIZE) == WINDSHEAR_ACCEPTED, "the header of two records");
-    check(windshear_write_record({0, -0.01f, 60, -20, 0, -1, 0, 5000, 0, 1}, run.data() + start(1), WINDSHEAR_RECORD_SIZE) == WINDSHEAR_ACCEPTED, "and the second");
+    check(windshear_write_header(1, 2, run.data(), WINDSHEAR_HEADER_SIZE) == WINDSHEAR_ACCEPTED, "the header of two records");
+    check(windshear_write_record(1, {0, -0.01f, 60, -20, 0, -1, 0, 5000, 0, 1, 0}, run.data() + start(1), WINDSHEAR_RECORD_SIZE) == WINDSHEAR_ACCEPTED, "and the second");
     gives(bytes(first + second), windshear_import_length, windshear_import, run);
     gives(run, windshear_export_length, windshear_export, bytes(first + second));
     gives(bytes(first + "\"-00.00\",-00.01,+060.00,-20,-0,-1,\"0\",50.00,0,1\r\n"), windshear_import_length, windshear_import, run);
@@ -208,22 +233,25 @@ int main() {
     windshear_record records[3];
     windshear_state lent = windshear_fresh(), plain = lent;
     uint8_t file[start(3)], answers[3 * WINDSHEAR_ANSWER_SIZE] = {};
-    check(windshear_write_header(3, file, WINDSHEAR_HEADER_SIZE) == WINDSHEAR_ACCEPTED, "the header is written");
+    check(windshear_write_header(1, 3, file, WINDSHEAR_HEADER_SIZE) == WINDSHEAR_ACCEPTED, "the header is written");
     for (int i = 0; i < 3; i++) {
-        samples[i] = {along[i], vertical[i], 14000, 400, 5000, 20000, -700, 10000, 1, 0};
+        samples[i] = {along[i], vertical[i], 14000, 400, 5000, 20000, -700, 10000, 1, 0, static_cast<uint16_t>(i)};
         check(same(windshear_offer_lent(&lent, samples[i]), want[i]), "01's answer, lent");
         const windshear_offered offered = windshear_offer(plain, samples[i]);
         plain = offered.state;
         check(same(offered.answer, want[i]), "01's answer, plain");
-        records[i] = {along[i] / 100.0f, vertical[i] / 100.0f, 140, 400, 5000, 20000, -700, 10000, 1, 0};
-        check(windshear_write_record(records[i], file + start(i), WINDSHEAR_RECORD_SIZE) == WINDSHEAR_ACCEPTED, "the record is written");
+        records[i] = {along[i] / 100.0f, vertical[i] / 100.0f, 140, 400, 5000, 20000, -700, 10000, 1, 0, 0};
+        check(windshear_write_record(1, records[i], file + start(i), WINDSHEAR_RECORD_SIZE) == WINDSHEAR_ACCEPTED, "the record is written");
     }
     check(windshear_offer_lent(&lent, windshear_sample{}).refusal == WINDSHEAR_REFUSED_AIRSPEED, "a refused sample");
     windshear_state turned = lent;
     turned.core.place = 0;
     std::rotate_copy(lent.held, lent.held + lent.core.place, lent.held + 200, turned.held);
     check(lent.core.place == 197 && turned.held[0] == 7143 && turned.held[1] == WINDSHEAR_ENTRY_LIMIT && turned.held[2] == 0, "the entries, the newest first, the gust cut");
-    check(same(windshear_offer_lent(&turned, samples[2]), windshear_offer_lent(&lent, samples[2])), "a turned ring answers alike");
+    windshear_sample next = samples[2];
+    next.frame = 3;
+    check(same(windshear_offer_lent(&turned, next), windshear_offer_lent(&lent, next)), "a turned ring answers alike");
+    check(windshear_offer_lent(&turned, next).refusal == WINDSHEAR_REFUSED_FRAMES, "the same number again");
     for (const uint16_t place : {5, 200, 65535}) {
         windshear_state off = turned;
         off.core.place = place;
@@ -235,11 +263,11 @@ int main() {
             forged.core.sums.*sum += off;
             check(windshear_offer_lent(&forged, samples[2]).refusal == WINDSHEAR_REFUSED_STATE, "a sum that is not its window's");
         }
-    check(windshear_write_header(WINDSHEAR_MAX_RECORDS + 1, file, WINDSHEAR_HEADER_SIZE) == WINDSHEAR_REFUSED_COUNT, "a header of too many records");
+    check(windshear_write_header(1, WINDSHEAR_MAX_RECORDS + 1, file, WINDSHEAR_HEADER_SIZE) == WINDSHEAR_REFUSED_COUNT, "a header of too many records");
 
     /* the written file, whole */
     windshear_file_test test = windshear_test_file(file, sizeof file);
-    check(test.refusal == WINDSHEAR_ACCEPTED && test.place == 0 && test.count == 3, "the file's own test");
+    check(test.refusal == WINDSHEAR_ACCEPTED && test.place == 0 && test.count == 3 && test.version == 1, "the file's own test");
     windshear_outcome outcome = windshear_run(file, sizeof file, answers, sizeof answers);
     check(outcome.refusal == WINDSHEAR_ACCEPTED && outcome.place == 0, "the run is accepted");
     for (int i = 0; i < 3; i++) {
@@ -268,6 +296,7 @@ int main() {
 
     exposed(-2940, {0, WINDSHEAR_ALERT_RED, 1, 1, 5000, 21000});
     exposed(2940, {0, WINDSHEAR_ALERT_AMBER, 0, 0, 0, -21000});
+    frames_dropped();
     lengths_of_zero();
 
     floats();

@@ -2,6 +2,7 @@
 
 use crate::files::file_of_samples;
 use crate::gen::{calm_air, gusts, turbulence, Rng};
+use crate::reference::Sample;
 use std::ffi::{c_char, c_int, c_void, CString};
 use std::mem::transmute;
 use std::time::Instant;
@@ -29,11 +30,16 @@ pub fn medians<const N: usize>(rounds: usize, mut passes: [&mut dyn FnMut(); N])
 /// Three files of 2,600 records. Calm: small random changes, no lamp; turbulent: strong random changes at
 /// every sample; gusty: winds that wander and jump, with changes of mode, height and climb.
 pub fn three_files() -> [(&'static str, Vec<u8>); 3] {
-    let calm = calm_air(&mut Rng::new(61), 2_600);
-    let turbulent = turbulence(&mut Rng::new(62), 2_600);
-    let gusty = gusts(&mut Rng::new(60), 2_600);
-    [("calm", calm), ("turbulent", turbulent), ("gusty", gusty)]
-        .map(|(name, list)| (name, file_of_samples(&list)))
+    three_lists(2_600).map(|(name, list)| (name, file_of_samples(&list)))
+}
+
+/// The same with so many samples.
+pub fn three_lists(n: i32) -> [(&'static str, Vec<Sample>); 3] {
+    [
+        ("calm", calm_air(&mut Rng::new(61), n)),
+        ("turbulent", turbulence(&mut Rng::new(62), n)),
+        ("gusty", gusts(&mut Rng::new(60), n)),
+    ]
 }
 
 /// The line of one comparison.

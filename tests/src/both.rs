@@ -2,11 +2,11 @@
 
 use crate::csv::{self, Refusal};
 use crate::files::right_len;
-use crate::gen::CALM;
+use crate::gen::{numbered, CALM};
 use crate::lend::lend;
 use crate::library::{
-    converted, exchanged, expected, needed, record_bits, refused, sent, sent_record, state_of,
-    with_entries,
+    accepted_file, converted, exchanged, expected, needed, record_bits, refused, refused_file,
+    sent, sent_record, state_of, with_entries,
 };
 use crate::program::listed;
 use crate::reference::{self, Answer, Reading, Record, Sample, Unit, WINDOWS};
@@ -65,9 +65,10 @@ impl Both {
         pair
     }
 
-    /// The answers to a list from fresh, each sample accepted.
+    /// The answers to a list from fresh, each sample accepted and standing for one frame.
     pub fn play(&self, list: &[Sample]) -> Vec<Answer> {
         let mut pair = self.fresh("played");
+        let list = numbered(list, 0, |_| 1);
         list.iter().map(|s| pair.offer(s).unwrap()).collect()
     }
 
@@ -78,6 +79,11 @@ impl Both {
 
     /// The held shear that is shown where the along wind has changed by so much since the sample before.
     pub fn shear(&self, change: i32, vertical: i32, airspeed: i32) -> i32 {
+        self.shear_over(change, 1, vertical, airspeed)
+    }
+
+    /// The same, so many frames after the sample before.
+    pub fn shear_over(&self, change: i32, frames: u16, vertical: i32, airspeed: i32) -> i32 {
         let before = Sample {
             along: -change / 2,
             ..CALM
@@ -86,9 +92,12 @@ impl Both {
             along: before.along + change,
             vertical,
             airspeed,
+            frame: frames,
             ..CALM
         };
-        self.play(&[before, changed])[1].shear
+        let mut pair = self.fresh("changed");
+        pair.offer(&before).unwrap();
+        pair.offer(&changed).unwrap().shear
     }
 
     /// A pattern's hundredths, as far as the library's cut, whether it was exact, and whether it was cut.
@@ -102,23 +111,23 @@ impl Both {
         found
     }
 
-    pub fn write_header(&self, count: u32, len: usize) -> Result<[u8; 8], u8> {
-        let want = reference::write_header(count, len);
+    pub fn write_header(&self, version: u32, count: u32, len: usize) -> Result<[u8; 8], u8> {
+        let want = reference::write_header(version, count, len);
         lend(
             len,
-            |buf| windshear::write_header(count, buf),
+            |buf| windshear::write_header(version, count, buf),
             want.map_err(u16::from),
         );
         self.count(2);
         want
     }
 
-    pub fn write_record(&self, r: &Record, len: usize) -> Result<[u8; 24], u8> {
-        let want = reference::write_record(r, len);
+    pub fn write_record(&self, version: u32, r: &Record, len: usize) -> Result<Vec<u8>, u8> {
+        let want = reference::write_record(version, r, len);
         lend(
             len,
-            |buf| windshear::write_record(&sent_record(r), buf),
-            want.map_err(u16::from),
+            |buf| windshear::write_record(version, &sent_record(r), buf),
+            want.as_ref().map_err(|&number| number.into()),
         );
         self.count(2);
         want
@@ -127,13 +136,13 @@ impl Both {
     /// A file's own test, which a run with the right answer buffer agrees with.
     pub fn test_file(&self, file: &[u8]) -> FileTest {
         let want = reference::test_file(file);
-        let outcome = want.err().map_or(Outcome::default(), |(number, place)| {
-            refused(number, place as usize)
-        });
-        let test = FileTest {
-            refusal: outcome.refusal,
-            place: outcome.place,
-            count: want.unwrap_or(0) as u16,
+        let test = match want {
+            Ok((version, count)) => accepted_file(&version, count),
+            Err((number, place)) => refused_file(number, place as usize),
+        };
+        let outcome = Outcome {
+            refusal: test.refusal,
+            place: test.place,
         };
         assert_eq!(windshear::test_file(file), test, "{} bytes", file.len());
         let ran = windshear::run(file, &mut vec![0; right_len(file)]);
@@ -237,6 +246,15 @@ impl Pair<'_> {
         self.both.count(4);
         self.offered += 1;
         answer
+    }
+
+    /// The sample one frame after the last accepted one.
+    pub fn offer_next(&mut self, s: &Sample) -> Result<Answer, u8> {
+        let frame = self
+            .unit
+            .last()
+            .map_or(0, |last| last.frame.wrapping_add(1));
+        self.offer(&Sample { frame, ..*s })
     }
 
     /// The lengths of the windows that are met, upward for sign 1, downward for -1.

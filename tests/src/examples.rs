@@ -1,9 +1,9 @@
 //! The example run files, and the CSV texts of a repair shop.
 
 use crate::csv;
-use crate::files::{file_of_samples, record_of};
-use crate::gen::{plateau, plateaus, series, CALM};
-use crate::reference::{Sample, WINDOWS};
+use crate::files::{file_of_samples, record_of, samples_in};
+use crate::gen::{numbered, plateau, plateaus, series, CALM};
+use crate::reference::{Sample, VERSIONS, WINDOWS};
 
 /// Where they are stored.
 pub const FOLDER: &str = concat!(env!("CARGO_MANIFEST_DIR"), "/../examples");
@@ -104,6 +104,49 @@ fn refused() -> Vec<u8> {
     file
 }
 
+/// 02, A6: forty seconds through a weaker microburst, whose host drops frames: three in each record where red comes on, 20 across the
+/// number's turn, eight where its hold runs out, and 20 in each of the last.
+fn dropped() -> Vec<u8> {
+    // so many records, each so many frames after the one before it
+    let parts = [
+        (40, 1),
+        (20, 3),
+        (12, 1),
+        (1, 20),
+        (8, 3),
+        (2, 1),
+        (1, 8),
+        (18, 1),
+        (1, 17),
+        (12, 2),
+        (30, 20),
+    ];
+    let each = |(n, elapsed): (usize, i32)| std::iter::repeat_n(elapsed, n);
+    let elapsed: Vec<_> = parts.into_iter().flat_map(each).collect();
+    let (mut i, mut height) = (-1, 640 * 1_200);
+    let list = series(elapsed.len() as i32, |record, s| {
+        let elapsed = elapsed[record as usize];
+        i += elapsed;
+        s.along = eased(&[(30, -1_600), (110, 1_300), (190, -700), (300, -400)], i);
+        s.vertical = eased(&[(20, 0), (70, -500), (130, 0)], i);
+        s.airspeed = 14_200 - s.along / 2;
+        s.climb = eased(&[(30, -700), (90, -1_200), (190, 900)], i);
+        s.pitch = eased(&[(40, 2_500), (90, 4_000), (230, 14_000)], i);
+        s.stall = 17_000 - s.climb;
+        height += elapsed * s.climb;
+        s.height = height / 1_200;
+        s.frame = (65_412 + i) as u16;
+    });
+    samples_in(&VERSIONS[1], &list)
+}
+
+/// 02, A6: an approach whose host falls behind: record 23 comes 21 frames after the one before it.
+fn behind() -> Vec<u8> {
+    let list = approach(40, |_, _| ());
+    let list = numbered(&list, 0, |i| if i == 23 { 21 } else { 1 });
+    samples_in(&VERSIONS[1], &list)
+}
+
 /// A shop's approach of nine seconds: a headwind of 14 knots becomes a tailwind of 12 in sinking air, and red
 /// comes on. Its airspeeds and Vs1 are no whole quarters of a knot, so that each record has a rounded float.
 fn shop() -> Vec<Sample> {
@@ -125,9 +168,11 @@ fn shop() -> Vec<Sample> {
 }
 
 /// Every example: its name, and its file.
-pub fn examples() -> [(&'static str, Vec<u8>); 6] {
+pub fn examples() -> [(&'static str, Vec<u8>); 8] {
     [
+        ("behind", behind()),
         ("calm", calm()),
+        ("dropped", dropped()),
         ("gust", gust()),
         ("microburst", microburst()),
         ("plateau", flat()),

@@ -1,7 +1,7 @@
 //! Run files made from samples, good and damaged, and the floats in them.
 
-use crate::gen::{any, gusts, Rng, CALM};
-use crate::reference::{read_record, Record, Sample, RANGES};
+use crate::gen::{any, dropping, gusts, numbered, Rng, CALM};
+use crate::reference::{read_record, Record, Sample, Version, RANGES, VERSIONS};
 
 /// The record of a sample, its speeds the floats nearest to so many hundredths more (below half of
 /// one, so that they stay the same). What does not fit its field becomes a value that is refused.
@@ -20,21 +20,37 @@ pub fn record_of(s: &Sample, more: f64) -> Record {
         vs1: s.vs1.try_into().unwrap_or(u16::MAX),
         mode: byte(s.mode),
         deselect: byte(s.deselect),
+        frame: s.frame,
     }
 }
 
-/// The file of the records, whatever they hold.
-pub fn file_of(records: &[Record]) -> Vec<u8> {
+/// The file of the records in a version, whatever they hold.
+pub fn file_in(version: &Version, records: &[Record]) -> Vec<u8> {
     let count = (records.len() as u16).to_le_bytes();
-    let mut file = [b"WSR\x01\0\0", &count[..]].concat();
-    file.extend(records.iter().flat_map(Record::bytes));
+    let mut file = [b"WSR", &[version.number as u8, 0, 0], &count[..]].concat();
+    file.extend(records.iter().flat_map(|record| record.bytes_in(version)));
     file
 }
 
-/// The file of the samples, each speed the float nearest to it.
-pub fn file_of_samples(list: &[Sample]) -> Vec<u8> {
+/// The version 1 file of the records, whatever they hold.
+pub fn file_of(records: &[Record]) -> Vec<u8> {
+    file_in(&VERSIONS[0], records)
+}
+
+/// The file of the samples in a version, each speed the float nearest to it.
+pub fn samples_in(version: &Version, list: &[Sample]) -> Vec<u8> {
     let records: Vec<_> = list.iter().map(|s| record_of(s, 0.0)).collect();
-    file_of(&records)
+    file_in(version, &records)
+}
+
+/// The version 1 file of the samples, each speed the float nearest to it.
+pub fn file_of_samples(list: &[Sample]) -> Vec<u8> {
+    samples_in(&VERSIONS[0], list)
+}
+
+/// The version that a file made here has.
+pub fn version_of(file: &[u8]) -> &'static Version {
+    &VERSIONS[usize::from(file[3] == 2)]
 }
 
 /// The length of the right answer buffer, as far as the header has a count that is not too large.
@@ -61,15 +77,23 @@ pub fn within_half(rng: &mut Rng) -> f64 {
     f64::from(rng.within(-49, 49)) / 100.0
 }
 
-/// A good file, its speeds anywhere within their hundredths.
+/// A good version 1 file, its speeds anywhere within their hundredths.
 pub fn random_file(rng: &mut Rng, count: i32) -> Vec<u8> {
-    let list = if rng.one_in(2) {
+    random_file_in(rng, &VERSIONS[0], count)
+}
+
+/// As `random_file`, in a version. In version 2 the host drops frames.
+pub fn random_file_in(rng: &mut Rng, version: &Version, count: i32) -> Vec<u8> {
+    let mut list = if rng.one_in(2) {
         gusts(rng, count)
     } else {
         any(rng, count)
     };
+    if version.number == 2 {
+        list = dropping(rng, &list);
+    }
     let records = list.iter().map(|s| record_of(s, within_half(rng)));
-    file_of(&records.collect::<Vec<_>>())
+    file_in(version, &records.collect::<Vec<_>>())
 }
 
 /// Up to three bytes changed; now and then cut short, or made longer.
@@ -92,15 +116,16 @@ pub fn damage(rng: &mut Rng, file: &mut Vec<u8>) {
     }
 }
 
-/// A good file, mostly short, or one of those given, damaged. An exposure that lights a lamp has room in
-/// a long one.
+/// A good file of either version, mostly short, or one of those given, damaged. An exposure that lights a lamp
+/// has room in a long one.
 pub fn damaged_file(rng: &mut Rng, given: &[Vec<u8>]) -> Vec<u8> {
     let most = rng.pick(&[40, 40, 40, 40, 240]);
     let count = rng.within(0, most);
     let mut file = if rng.one_in(20) {
         given[rng.draw() as usize % given.len()].clone()
     } else {
-        random_file(rng, count)
+        let version = rng.pick(&VERSIONS);
+        random_file_in(rng, &version, count)
     };
     damage(rng, &mut file);
     file
@@ -126,12 +151,18 @@ pub fn float_patterns(rng: &mut Rng) -> impl Iterator<Item = u32> + '_ {
 
 /// The bytes of the record at a place.
 pub fn place_mut(file: &mut [u8], place: usize) -> &mut [u8] {
-    &mut file[8 + 24 * place..][..24]
+    let bytes = version_of(file).record;
+    &mut file[8 + bytes * place..][..bytes]
 }
 
-/// A file of so many calm records.
+/// A version 1 file of so many calm records.
 pub fn calm_file(count: usize) -> Vec<u8> {
-    file_of(&vec![record_of(&CALM, 0.0); count])
+    calm_file_in(&VERSIONS[0], count)
+}
+
+/// As `calm_file`, in a version; each stands for one frame.
+pub fn calm_file_in(version: &Version, count: usize) -> Vec<u8> {
+    samples_in(version, &numbered(&vec![CALM; count], 0, |_| 1))
 }
 
 /// Where each field stands in a record: its first byte, and how many.

@@ -2,7 +2,7 @@
 
 use crate::gen::{gusts, Rng};
 use crate::library::{entries, in_order, state_of, summed, sums, with_entries};
-use crate::reference::{entry, shear, Unit, WINDOWS};
+use crate::reference::{entry, shear, Unit, MOST_FRAMES, WINDOWS};
 use windshear::{Sample, State};
 
 /// A state, what was done to it, and whether it passes 8.
@@ -80,6 +80,10 @@ fn put_fields(put: Put) {
             });
         }
     }
+    // 02, A6: the kept frame number is no counter
+    for value in [0, 1, 20, 21, 600, 601, 32_768, u16::MAX] {
+        put(format!("frame {value}"), true, &|t| t.core.frame = value);
+    }
     let signed: [(&str, fn(&mut State) -> &mut i32, i32, i32); 3] = [
         ("command", |t| &mut t.core.command, -30_000, 27_000),
         ("along", |t| &mut t.core.along, -20_000, 20_000),
@@ -142,34 +146,50 @@ fn put_places(base: &State, put: Put) {
     }
 }
 
-/// One sample within the band, offered in both forms, against the plain list of the entries: the shear
-/// is cut to the newest of them (02, A1), the oldest is gone, each sum is summed anew, and the lamps
-/// follow those sums.
-pub fn step(state: &mut State, s: Sample) {
+/// The sample so many frames after the last one that a state has accepted.
+pub fn after(state: &State, frames: u16, s: Sample) -> Sample {
+    Sample {
+        frame: state.core.frame.wrapping_add(frames),
+        ..s
+    }
+}
+
+/// One sample within the band, so many frames after the last, offered in both forms, against the plain list of the
+/// entries: the shear is cut to the newest of them (02, A1), which stand there once for each frame (02, A6), the
+/// oldest are gone, each sum is summed anew, and the lamps follow those sums.
+pub fn step(state: &mut State, frames: u16, s: Sample) {
     let before = *state;
+    let s = after(state, frames, s);
     let (answer, after) = before.offer(s);
     assert_eq!(state.offer_lent(s), answer);
     assert_eq!(*state, after);
     assert_eq!(answer.refusal, 0, "{:?}", before.core);
-    let from = if before.core.seen == 0 {
-        s.along
+    assert_eq!(after.core.frame, s.frame);
+    let (from, frames) = if before.core.seen == 0 {
+        (s.along, 1)
     } else {
-        before.core.along
+        (before.core.along, frames)
     };
-    assert_eq!(answer.shear, shear(s.along - from, s.vertical, s.airspeed));
-    let mut list = entries(&before);
-    list.insert(0, entry(answer.shear));
+    let held = shear(s.along - from, frames, s.vertical, s.airspeed);
+    assert_eq!(answer.shear, held);
+    let mut list = vec![entry(held); frames.into()];
+    list.extend(entries(&before));
     list.truncate(200);
-    let place = usize::from(before.core.place + 199) % 200;
+    let place = usize::from(before.core.place + 200 - frames) % 200;
     assert_eq!(after, with_entries(&after, place, &list));
 
     let met = |sign: i64| {
         let mut windows = WINDOWS.iter().zip(in_order(&summed(&list)));
         windows.any(|(&(samples, value), sum)| sign * sum >= samples as i64 * value)
     };
-    let held = |lit: u16| (1..60).contains(&lit);
+    let held = |lit: u16| lit > 0 && lit + frames <= 60;
     let red = met(1) || held(before.core.red);
     let amber = met(-1) || held(before.core.amber);
     let alert = if red { 2 } else { amber.into() };
     assert_eq!(answer.alert, alert, "{:?}", before.core);
+}
+
+/// Frames that a sample may stand for.
+pub fn some_frames(rng: &mut Rng) -> u16 {
+    rng.within(1, MOST_FRAMES.into()) as u16
 }

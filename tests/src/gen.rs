@@ -1,6 +1,6 @@
 //! Lists of samples to offer to a unit, the same ones every time.
 
-use crate::reference::{nearest, Sample, CUT, RANGES, WINDOWS};
+use crate::reference::{nearest, refusal, Sample, CUT, MOST_FRAMES, RANGES, WINDOWS};
 use std::collections::BTreeSet;
 
 /// A splitmix generator.
@@ -45,12 +45,47 @@ pub const CALM: Sample = Sample {
     vs1: 10_000,
     mode: 1,
     deselect: 0,
+    frame: 0,
 };
 
-/// `n` calm samples, each edited.
+/// The list with other frame numbers, from a first one on, each accepted sample so many frames after the one
+/// before it as `elapsed` says. What its fields refuse has the number of the one before it.
+pub fn numbered(list: &[Sample], first: u16, mut elapsed: impl FnMut(usize) -> u16) -> Vec<Sample> {
+    let mut last = None;
+    let one = |(i, s): (usize, &Sample)| {
+        if refusal(s) == 0 {
+            last = Some(last.map_or(first, |last: u16| last.wrapping_add(elapsed(i))));
+        }
+        Sample {
+            frame: last.unwrap_or(first),
+            ..*s
+        }
+    };
+    list.iter().enumerate().map(one).collect()
+}
+
+/// The list as of a host that drops frames: now and then or at each sample, up to so many, or the most at each.
+pub fn dropping(rng: &mut Rng, list: &[Sample]) -> Vec<Sample> {
+    let most = rng.pick(&[2, 3, 7, MOST_FRAMES, MOST_FRAMES]);
+    let (least, often) = rng.pick(&[(1, 1), (1, 1), (1, 8), (1, 60), (most, 1)]);
+    // so that many a short list goes round
+    let first = rng.pick(&[0, 65_500]) + rng.within(0, 35) as u16;
+    numbered(list, first, |_| match rng.one_in(often) {
+        true => rng.within(least.into(), most.into()) as u16,
+        false => 1,
+    })
+}
+
+/// Elapsed frames that 21 refuses.
+pub const REFUSED_FRAMES: [u16; 8] = [0, 21, 22, 40, 256, 32_768, 65_516, u16::MAX];
+
+/// `n` calm samples, each one frame after the one before it, then edited.
 pub fn series(n: i32, mut edit: impl FnMut(i32, &mut Sample)) -> Vec<Sample> {
     let one = |i| {
-        let mut s = CALM;
+        let mut s = Sample {
+            frame: i as u16,
+            ..CALM
+        };
         edit(i, &mut s);
         s
     };
@@ -203,17 +238,29 @@ fn bad_sample(rng: &mut Rng, bad: impl Fn(usize) -> bool) -> Sample {
     for (i, field) in fields.iter_mut().enumerate().filter(|(i, _)| bad(*i)) {
         *field = rng.pick(&bad_values(RANGES[i]));
     }
-    Sample::from_fields(fields)
+    Sample {
+        frame: rng.draw() as u16,
+        ..Sample::from_fields(fields)
+    }
 }
 
-/// The list with refused samples before some of its own.
+/// The list of accepted samples with refused ones before some of them: by their fields, or by their frames.
 pub fn with_refused(rng: &mut Rng, list: Vec<Sample>) -> Vec<Sample> {
     let mut all = Vec::new();
+    let mut last: Option<u16> = None;
     for s in list {
         while rng.one_in(6) {
             let which = rng.draw() & rng.draw() & 0x3ff | 1 << (rng.draw() % 10);
-            all.push(bad_sample(rng, |i| which >> i & 1 == 1));
+            let bad = match last {
+                Some(last) if rng.one_in(3) => Sample {
+                    frame: last.wrapping_add(rng.pick(&REFUSED_FRAMES)),
+                    ..random_sample(rng)
+                },
+                _ => bad_sample(rng, |i| which >> i & 1 == 1),
+            };
+            all.push(bad);
         }
+        last = Some(s.frame);
         all.push(s);
     }
     all
@@ -273,7 +320,8 @@ pub fn gusts(rng: &mut Rng, n: i32) -> Vec<Sample> {
     let mut lift = rng.within(-8_000, 8_000);
     let cancels = rng.one_in(3);
     (0..n)
-        .map(|_| {
+        .map(|i| {
+            now.frame = i as u16;
             now.along += rng.within(-40, 40);
             if rng.one_in(30) {
                 now.along += rng.within(-2_600, 2_600);
@@ -314,11 +362,12 @@ fn gusty(rng: &mut Rng, out: &mut Lists) {
 /// wind by up to a fiftieth of the rest of its range.
 pub fn any(rng: &mut Rng, n: i32) -> Vec<Sample> {
     let (mut along, mut way) = (0, rng.within(-1, 1));
-    let one = |_| {
+    let one = |i| {
         if rng.one_in(120) {
             way = rng.within(-1, 1);
         }
         let mut s = random_sample(rng);
+        s.frame = i as u16;
         if way != 0 {
             let rest = 20_000 * way - along;
             s.along = along + rest * rng.within(0, 100) / 5_000;
@@ -347,7 +396,10 @@ fn edges(rng: &mut Rng, out: &mut Lists) {
                     *field = edge(rng, i);
                 }
             }
-            *s = Sample::from_fields(fields);
+            *s = Sample {
+                frame: s.frame,
+                ..Sample::from_fields(fields)
+            };
         });
         out.push((k.to_string(), list));
     }
@@ -752,13 +804,28 @@ pub fn all_lists() -> Vec<(String, Vec<Sample>)> {
     all
 }
 
-/// The accepted samples of each of `long_lists`: a hundred turns of a ring of two hundred.
+/// Some of all lists, as of a host that drops frames, with refused samples among their own where these are all
+/// accepted. So lamps, voices and counts of every kind jump past their ends.
+pub fn dropped_lists() -> Vec<(String, Vec<Sample>)> {
+    let mut rng = Rng::new(600);
+    let mut dropped = Vec::new();
+    for (name, list) in all_lists().into_iter().step_by(4) {
+        let mut list = dropping(&mut rng, &list);
+        if list.iter().all(|s| refusal(s) == 0) {
+            list = with_refused(&mut rng, list);
+        }
+        dropped.push((format!("dropped: {name}"), list));
+    }
+    dropped
+}
+
+/// The accepted samples of each of `long_lists`: a hundred turns of a ring of two hundred, or more.
 pub const LONG: i32 = 20_000;
 
 /// Makes so many samples.
 type Make = fn(&mut Rng, i32) -> Vec<Sample>;
 
-/// Lists of `LONG` accepted samples, with refused ones among them.
+/// Lists of `LONG` accepted samples, with refused ones among them. Of each kind, a second one drops frames.
 pub fn long_lists() -> Vec<(String, Vec<Sample>)> {
     let makes: [(&str, Make); 4] = [
         ("calm", calm_air),
@@ -767,9 +834,16 @@ pub fn long_lists() -> Vec<(String, Vec<Sample>)> {
         ("random", any),
     ];
     let mut rng = Rng::new(100);
-    let mut one = |(name, make): (_, Make)| {
+    let mut lists = Vec::new();
+    for (name, make) in makes {
         let list = make(&mut rng, LONG);
-        (format!("long: {name}"), with_refused(&mut rng, list))
-    };
-    makes.into_iter().map(&mut one).collect()
+        let dropped = dropping(&mut rng, &list);
+        for (name, list) in [
+            (format!("long: {name}"), list),
+            (format!("long: {name}, dropped"), dropped),
+        ] {
+            lists.push((name, with_refused(&mut rng, list)));
+        }
+    }
+    lists
 }

@@ -1,14 +1,17 @@
 //! The library's types from the reference's.
 
 use crate::csv::Refusal;
-use crate::reference::{self, WINDOWS};
+use crate::reference::{self, Version, WINDOWS};
 use windshear::{
-    Answer, Core, Exchanged, Hundredths, Needed, Outcome, Record, Sample, State, Sums,
+    Answer, Core, Exchanged, FileTest, Hundredths, Needed, Outcome, Record, Sample, State, Sums,
 };
 
 /// The sample as the library takes it.
 pub fn sent(s: &reference::Sample) -> Sample {
-    Sample::from(s.fields())
+    Sample {
+        frame: s.frame,
+        ..Sample::from(s.fields())
+    }
 }
 
 /// The answer that the reference's answer stands for.
@@ -38,6 +41,25 @@ pub fn refused(number: impl Into<u16>, place: usize) -> Outcome {
     Outcome {
         refusal: number.into(),
         place: place as u16,
+    }
+}
+
+/// The test of a file that is refused.
+pub fn refused_file(number: impl Into<u16>, place: usize) -> FileTest {
+    let Outcome { refusal, place } = refused(number, place);
+    FileTest {
+        refusal,
+        place,
+        ..FileTest::default()
+    }
+}
+
+/// The test of a file that is accepted.
+pub fn accepted_file(version: &Version, count: usize) -> FileTest {
+    FileTest {
+        count: count as u16,
+        version: version.number,
+        ..FileTest::default()
     }
 }
 
@@ -92,25 +114,27 @@ pub fn with_entries(state: &State, place: usize, entries: &[i32]) -> State {
 }
 
 /// The state that the reference's unit stands for, each counter up to where it stops. The newest entry
-/// stands one place further back for each accepted sample.
+/// stands one place further back for each frame that the accepted samples stand for.
 pub fn state_of(unit: &reference::Unit) -> State {
     let stop = |n: u64, at: u64| n.min(at) as u16;
-    let place = (200 - unit.accepted() % 200) % 200;
+    let place = (200 - unit.frames() as usize % 200) % 200;
+    let last = unit.last();
     let mut held = unit.last_entries(200);
     held.rotate_right(place);
     State {
         held: held.try_into().unwrap(),
         core: Core {
             sums: sums(WINDOWS.map(|(samples, _)| unit.window_sum(samples))),
-            along: unit.last_along().unwrap_or(0),
-            mode: unit.last_mode().unwrap_or(0),
+            along: last.map_or(0, |s| s.along),
+            mode: last.map_or(0, |s| s.mode),
             command: unit.command(),
-            seen: unit.last_along().is_some().into(),
+            seen: last.is_some().into(),
             red: stop(unit.red_lit_for(), 60),
             amber: stop(unit.amber_lit_for(), 60),
             voice: stop(unit.voice_since(), 73),
             guidance: unit.guidance_counted().map_or(0, |n| n as u16 + 1),
             place: place as u16,
+            frame: last.map_or(0, |s| s.frame),
         },
     }
 }
@@ -128,6 +152,7 @@ pub fn sent_record(r: &reference::Record) -> Record {
         vs1: r.vs1,
         mode: r.mode,
         deselect: r.deselect,
+        frame: r.frame,
     }
 }
 
@@ -144,6 +169,7 @@ pub fn record_bits(r: &Record) -> reference::Record {
         vs1: r.vs1,
         mode: r.mode,
         deselect: r.deselect,
+        frame: r.frame,
     }
 }
 

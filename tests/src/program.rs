@@ -18,7 +18,7 @@ pub fn listed(file: &[u8]) -> String {
         .expect("rt check listing builds it");
     let mut input = child.stdin.take().unwrap();
     let file = file.to_vec();
-    // what lies past 62,409 bytes is not read, so a write may fail there
+    // what lies past 65,009 bytes is not read, so a write may fail there
     let writer = std::thread::spawn(move || drop(input.write_all(&file)));
     let output = child.wait_with_output().unwrap();
     writer.join().unwrap();

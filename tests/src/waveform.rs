@@ -2,10 +2,10 @@
 //! and the exact judgement of their averages.
 
 use crate::both::Both;
-use crate::files::file_of_samples;
+use crate::files::samples_in;
 use crate::gen::{Rng, TEST_ROWS};
 use crate::library::sent;
-use crate::reference::{nearest, refusal, shear, Sample, COUNT_LIMIT, CUT, RANGES};
+use crate::reference::{nearest, shear, Sample, CUT, RANGES, VERSIONS};
 
 /// A test row of 000: the average as held, the samples exposed, and the samples within which the caution and the warning come,
 /// if any.
@@ -274,24 +274,26 @@ pub const SHAPES: [(&str, Shape); 12] = [
     ("allowed", allowed),
 ];
 
-/// The change of along wind whose shear is nearest to this one.
-pub fn along_change(held: i32) -> i32 {
-    nearest(i128::from(held) * 1_765_197, 1_852_000_000) as i32
+/// The change of along wind over so many frames whose shear is nearest to this one.
+pub fn along_change(held: i32, frames: u16) -> i32 {
+    let due = i128::from(held) * 1_765_197 * i128::from(frames);
+    nearest(due, 1_852_000_000) as i32
 }
 
-/// The vertical wind and airspeed, from an airspeed on, that hold a shear with so much change of along wind: what is left of it is
-/// vertical wind over airspeed. At one airspeed the shears of two successive vertical winds are 100,000 / airspeed apart (17 at 60
+/// The vertical wind and airspeed, from an airspeed on, that hold a shear with so much change of along wind over so many frames: what
+/// is left of it is vertical wind over airspeed. At one airspeed the shears of two successive vertical winds are 100,000 / airspeed apart (17 at 60
 /// knots, 1.7 at 600), so the nearest may miss; at the next airspeeds they lie elsewhere, and the first that is held as wanted is
 /// taken. The unrounded shear is then within half a hundred-thousandth.
-pub fn draft(held: i32, change: i32, from: i32) -> Option<(i32, i32)> {
-    let left = i128::from(held) * 1_765_197 - i128::from(change) * 1_852_000_000;
+pub fn draft(held: i32, change: i32, frames: u16, from: i32) -> Option<(i32, i32)> {
+    let per_change = 1_765_197 * i128::from(frames);
+    let left = i128::from(held) * per_change - i128::from(change) * 1_852_000_000;
     let most = i128::from(RANGES[1].1);
-    let vertical = |airspeed: i32| -nearest(left * i128::from(airspeed), 176_519_700_000);
+    let vertical = |airspeed: i32| -nearest(left * i128::from(airspeed), 100_000 * per_change);
     (from..=RANGES[2].1)
         .map(|airspeed| (vertical(airspeed), airspeed))
         .take_while(|(vertical, _)| vertical.abs() <= most)
         .map(|(vertical, airspeed)| (vertical as i32, airspeed))
-        .find(|&(vertical, airspeed)| shear(change, vertical, airspeed) == held)
+        .find(|&(vertical, airspeed)| shear(change, frames, vertical, airspeed) == held)
 }
 
 /// Which wind a shear is made by.
@@ -316,7 +318,8 @@ pub const GUST: i32 = 100_000;
 pub struct Winds {
     axis: Axis,
     along: i32,
-    started: bool,
+    /// The frame number of the last sample.
+    last: Option<u16>,
 }
 
 impl Winds {
@@ -325,28 +328,30 @@ impl Winds {
         Winds {
             axis,
             along,
-            started: false,
+            last: None,
         }
     }
 
-    /// A least and a greatest shear between which the next sample can hold all, the first sample all but -1 and 1.
-    pub fn reach(&self) -> (i32, i32) {
-        if !self.started {
+    /// A least and a greatest shear between which the next sample, so many frames later, can hold all, the first sample all but
+    /// -1 and 1.
+    pub fn reach(&self, frames: u16) -> (i32, i32) {
+        if self.last.is_none() {
             return (-CUT, CUT);
         }
         let (low, high) = RANGES[0];
-        let by_change = |along: i32| shear(along - self.along, 0, RANGES[2].0);
+        let by_change = |along: i32| shear(along - self.along, frames, 0, RANGES[2].0);
         (by_change(low).min(-GUST), by_change(high).max(GUST))
     }
 
     /// The change of along wind for a shear: its axis's, or back from far off where the vertical wind can make up for it. A shear
-    /// of 1 wants one.
-    fn change(&self, rng: &mut Rng, held: i32) -> i32 {
-        let nearest = along_change(held);
+    /// of 1 wants one for each frame.
+    fn change(&self, rng: &mut Rng, held: i32, frames: u16) -> i32 {
+        // the nearest for each frame, so that enough is left for the vertical wind
+        let nearest = i32::from(frames) * along_change(held, 1);
         if held.abs() > GUST {
-            nearest
+            along_change(held, frames)
         } else if held.abs() == 1 {
-            held
+            held * i32::from(frames)
         } else if self.along.abs() > 5_000 {
             -100 * self.along.signum()
         } else {
@@ -358,90 +363,110 @@ impl Winds {
         }
     }
 
-    /// The sample with other winds and another airspeed, so that it holds exactly this shear. Where the change cannot be had, it is
+    /// The sample so many frames after the last, with other winds and another airspeed, so that it holds exactly this shear. Where the change cannot be had, it is
     /// one more or less, or the along wind stands still or nearly so.
-    pub fn hold(&mut self, rng: &mut Rng, held: i32, s: Sample) -> Sample {
-        let wanted = self.change(rng, held);
+    pub fn hold(&mut self, rng: &mut Rng, held: i32, frames: u16, s: Sample) -> Sample {
+        let wanted = self.change(rng, held, frames);
         let slowest = RANGES[2].0;
         let others = [wanted, wanted + 1, wanted - 1, 0, 1, -1].map(|change| (change, slowest));
         let first = (wanted, rng.within(slowest, 20_000));
         let (low, high) = RANGES[0];
-        let can = |change| self.started && (low..=high).contains(&(self.along + change));
+        let can = |change| self.last.is_some() && (low..=high).contains(&(self.along + change));
         let found = std::iter::once(first)
             .chain(others)
             .filter(|&(change, _)| change == 0 || can(change))
-            .find_map(|(change, from)| draft(held, change, from).map(|found| (change, found)));
+            .find_map(|(change, from)| {
+                draft(held, change, frames, from).map(|found| (change, found))
+            });
         let Some((change, (vertical, airspeed))) = found else {
             panic!("{held} cannot be held after {self:?}");
         };
         self.along += change;
-        self.started = true;
+        let frame = self.last.map_or(0, |last| last.wrapping_add(frames));
+        self.last = Some(frame);
         Sample {
             along: self.along,
             vertical,
             airspeed,
+            frame,
             ..s
         }
     }
 }
 
-/// The samples with other winds and airspeeds, so that they hold these shears.
-pub fn holding(rng: &mut Rng, axis: Axis, list: &[Sample], shears: &[i32]) -> Vec<Sample> {
-    assert_eq!(list.len(), shears.len());
+/// The samples with other winds and airspeeds, so that they hold these shears, each over so many frames.
+pub fn holding(
+    rng: &mut Rng,
+    axis: Axis,
+    list: &[Sample],
+    shears: &[i32],
+    frames: &[u16],
+) -> Vec<Sample> {
+    assert_eq!([shears.len(), frames.len()], [list.len(); 2]);
     let mut winds = Winds::new(axis, rng.within(-500, 500));
-    let samples = list.iter().zip(shears);
+    let samples = list.iter().zip(shears).zip(frames);
     samples
-        .map(|(s, &held)| winds.hold(rng, held, *s))
+        .map(|((s, &held), &frames)| winds.hold(rng, held, frames, *s))
         .collect()
 }
 
 /// The accepted samples of a list from a fresh start, by what the library answers to them.
+#[derive(Default)]
 pub struct Run {
     pub heights: Vec<i32>,
     pub modes: Vec<i32>,
     pub shears: Vec<i32>,
     pub alerts: Vec<u8>,
+    /// 02, A6: the shears, each once for each frame of its sample, and how many of them there are at each sample.
+    entries: Vec<i32>,
+    ends: Vec<usize>,
     /// The reference's red and amber condition.
     pub conditions: Vec<[bool; 2]>,
 }
 
 impl Run {
     /// The library is told the list in the plain form and lent, the reference beside it, and as a run file the first samples that
-    /// it has room for.
+    /// it has room for: of version 2, and of version 1 too where each stands for one frame.
     pub fn of(both: &Both, name: &str, list: &[Sample]) -> Run {
-        let mut run = Run {
-            heights: Vec::new(),
-            modes: Vec::new(),
-            shears: Vec::new(),
-            alerts: Vec::new(),
-            conditions: Vec::new(),
-        };
+        let mut run = Run::default();
+        let mut accepted = Vec::new();
         let mut pair = both.fresh(name);
         for s in list {
             let (answer, _) = pair.state.offer(sent(s));
             if pair.offer(s).is_ok() {
+                accepted.push(*s);
                 run.heights.push(s.height);
                 run.modes.push(s.mode);
                 run.shears.push(answer.shear);
                 run.alerts.push(answer.alert as u8);
+                run.ends.push(pair.unit.frames() as usize);
+                run.entries
+                    .resize(pair.unit.frames() as usize, answer.shear);
                 run.conditions
                     .push([1, -1].map(|sign| pair.unit.condition(sign)));
             }
         }
-        let accepted = list.iter().filter(|s| refusal(s) == 0).copied();
-        let in_file: Vec<_> = accepted.take(COUNT_LIMIT).collect();
-        let file = file_of_samples(&in_file);
-        let bytes = both.run(&file, 10 * in_file.len()).unwrap();
-        for (i, bytes) in bytes.chunks(10).enumerate() {
-            assert_eq!(bytes[0], run.alerts[i], "{name}: {i}");
-            assert_eq!(bytes[4..8], run.shears[i].to_le_bytes(), "{name}: {i}");
+        let dropped = run.entries.len() > accepted.len();
+        for version in &VERSIONS[usize::from(dropped)..] {
+            let in_file = &accepted[..accepted.len().min(version.most)];
+            let file = samples_in(version, in_file);
+            let bytes = both.run(&file, 10 * in_file.len()).unwrap();
+            for (i, bytes) in bytes.chunks(10).enumerate() {
+                assert_eq!(bytes[0], run.alerts[i], "{name}: {i}");
+                assert_eq!(bytes[4..8], run.shears[i].to_le_bytes(), "{name}: {i}");
+            }
         }
         run
     }
 
+    /// The shears up to a sample, each once for each of its frames.
+    pub fn entries(&self, at: usize) -> &[i32] {
+        &self.entries[..self.ends[at]]
+    }
+
     /// The rows that 02, A4 promises an alert for at a sample, for sign 1 red, for -1 amber where red is dark.
     pub fn promised(&self, at: usize, sign: i32) -> impl Iterator<Item = Row> + '_ {
-        let reached = move |row: &Row| reaches(&self.shears[..=at], *row, sign);
+        let reached = move |row: &Row| reaches(self.entries(at), *row, sign);
         alert_rows().filter(move |row| in_band(self.heights[at]) && reached(row))
     }
 }

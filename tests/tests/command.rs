@@ -14,9 +14,9 @@ use std::time::{Duration, Instant};
 use windshear::meaning;
 use windshear_tests::csv::{self, NAMES};
 use windshear_tests::examples::examples;
-use windshear_tests::files::file_of_samples;
-use windshear_tests::gen::{any, Rng, CALM};
-use windshear_tests::reference::{listing, Sample, RANGES};
+use windshear_tests::files::{file_of_samples, samples_in};
+use windshear_tests::gen::{any, numbered, Rng, CALM};
+use windshear_tests::reference::{listing, Sample, RANGES, VERSIONS};
 use windshear_tests::saved::saved;
 use windshear_tests::shell::{after, command, compare, empty, ended, left, reset_after, run, run_on, run_to, signal, Left, ROOT};
 
@@ -139,19 +139,28 @@ fn a_shops_file_goes_in_is_listed_and_comes_out_the_same() {
     println!("compared {n} files of runs that went in and came out");
 }
 
+/// What an export says of a file of version 2 (02, A6).
+fn version_2() -> Left {
+    left(1, "", "refused 3 at 0: the version is 2, and a CSV text holds version 1 only\n")
+}
+
 #[test]
 fn the_examples_come_out_as_the_reference_has_them() {
     let mut n = 0;
     for (name, file) in examples() {
         let shop = Shop::new("examples").with("run.wsr", &file);
-        let listed = shop.run(&["list", "run.wsr"]);
-        if name == "refused" {
-            assert_eq!(listed, refused(11, 20));
-            assert_eq!(shop.unchanged(|shop| shop.run(&["export", "run.wsr", "run.csv"])), refused(11, 20));
+        let listed = match name {
+            "behind" => refused(21, 23),
+            "refused" => refused(11, 20),
+            _ => left(0, &listing(&file), ""),
+        };
+        assert_eq!(shop.run(&["list", "run.wsr"]), listed, "{name}");
+        if let Ok(length) = csv::export_length(&file) {
+            let text = csv::export(&file, length).unwrap();
+            assert_eq!(shop.run(&["export", "run.wsr", "-"]), left(0, &string(text), ""), "{name}");
         } else {
-            assert_eq!(listed, left(0, &listing(&file), ""));
-            let text = csv::export(&file, csv::export_length(&file).unwrap()).unwrap();
-            assert_eq!(shop.run(&["export", "run.wsr", "-"]), left(0, &string(text), ""));
+            let said = if name == "refused" { refused(11, 20) } else { version_2() };
+            assert_eq!(shop.unchanged(|shop| shop.run(&["export", "run.wsr", "run.csv"])), said, "{name}");
         }
         n += 2;
     }
@@ -184,7 +193,7 @@ fn a_refusal_says_its_number_its_place_and_its_meaning() {
     let mut files = vec![
         (1, 0, good[..7].to_vec()),
         (2, 0, with(0, b'w')),
-        (3, 0, with(3, 2)),
+        (3, 0, with(3, 3)),
         (4, 0, with(5, 1)),
         (5, 0, with(7, 11)),
         (6, 0, with(6, 4)),
@@ -213,12 +222,30 @@ fn a_refusal_says_its_number_its_place_and_its_meaning() {
     compare(cases, "refusals of the command");
 }
 
+/// 02, A6: a file of version 2 is listed, with 21 for frames that are not 1 to 20, and is not exported: a text holds version 1 only.
+#[test]
+fn a_version_2_file_is_listed_and_not_exported() {
+    let shop = Shop::new("version 2").with("taken", "a file that stays");
+    let list = |elapsed: u16| samples_in(&VERSIONS[1], &numbered(&[CALM; 4], 65_530, |i| if i == 2 { elapsed } else { 1 }));
+    let mut cases = Vec::new();
+    for elapsed in [1, 2, 20, 0, 21, 65_535] {
+        let file = list(elapsed);
+        let fits = (1..=20).contains(&elapsed);
+        let listed = if fits { left(0, &listing(&file), "") } else { refused(21, 2) };
+        cases.push(("listed", shop.unchanged(|shop| shop.fed(&["list", "-"], &file)), listed));
+        for arguments in [&["export", "-", "new"][..], &["export", "--force", "-", "taken"], &["export", "-", "-"]] {
+            cases.push(("exported", shop.unchanged(|shop| shop.fed(arguments, &file)), version_2()));
+        }
+    }
+    compare(cases, "files of version 2 by the command");
+}
+
 /// The field of each of 11 to 20, by 01's name, stands in its words, and no other number's.
 #[test]
 fn the_words_name_their_field() {
     let mut n = 0;
     for (field, name) in NAMES.iter().enumerate() {
-        for number in (0..=8).chain(11..=20).chain(23..=24) {
+        for number in (0..=8).chain(11..=21).chain(23..=24) {
             let named = meaning(number).starts_with(&format!("{name} "));
             assert_eq!(named, usize::from(number) == 11 + field, "{name}: {}", meaning(number));
             n += 1;

@@ -242,7 +242,9 @@ fn written_as_rust_formats() {
         let text = write(&list);
         assert!(text == text_of(&table_of(&list)));
         if list.len() <= 2_600 {
-            assert_eq!(read(&text), Ok(list.clone()));
+            // a text has no frame numbers
+            let fields = |list: &[Sample]| list.iter().map(Sample::fields).collect::<Vec<_>>();
+            assert_eq!(fields(&read(&text).unwrap()), fields(&list));
         }
         lines += list.len();
     }

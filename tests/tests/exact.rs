@@ -375,7 +375,8 @@ fn each_set_of_rounded_floats() {
         let file = moved_file(&mut rng, &[*s; 8], &sets);
         for (place, set) in sets.iter().enumerate() {
             let read = both.read_record(&file, place).unwrap();
-            assert_eq!((read.sample, read.exact), (*s, *set == 0), "{set:03b}");
+            let fields = (read.sample.fields(), read.exact);
+            assert_eq!(fields, (s.fields(), *set == 0), "{set:03b}");
             let Record {
                 along, vertical, ..
             } = read.record;

@@ -50,7 +50,7 @@ fn every_value_in_range() {
             let file = exchange.accepted(&text_of(&table_of(&list)), true);
             for (place, s) in list.iter().enumerate() {
                 let read = exchange.both.read_record(&file, place).unwrap();
-                assert_eq!(read.sample, *s);
+                assert_eq!(read.sample.fields(), s.fields());
                 let floats = [
                     read.record.along,
                     read.record.vertical,

@@ -25,6 +25,7 @@ impl Told {
 /// The library is told the list in both forms, the plain program too, and a run of it shows the same.
 fn told(both: &Both, list: &[Sample]) -> Told {
     let mut pair = both.fresh("told");
+    let list = &numbered(list, 0, |_| 1);
     let mut by_plain = plain::Unit::new();
     let mut entries = Vec::new();
     let answers = list.iter().map(|s| {
@@ -63,9 +64,9 @@ fn met_in(list: &[i32], sign: i64) -> Vec<bool> {
 fn gusts_of(held: i32, change: i32) -> Vec<(i32, i32)> {
     let at = |airspeed: i32| {
         // what the vertical wind is to add, at this airspeed
-        let rest = f64::from(held) - f64::from(shear(change, 0, airspeed));
+        let rest = f64::from(held) - f64::from(shear(change, 1, 0, airspeed));
         let near = (-rest * f64::from(airspeed) / 100_000.0).round() as i32;
-        let fits = |v: &i32| v.abs() <= 10_000 && shear(change, *v, airspeed) == held;
+        let fits = |v: &i32| v.abs() <= 10_000 && shear(change, 1, *v, airspeed) == held;
         (near - 1..=near + 1).find(fits).map(|v| (v, airspeed))
     };
     let all: Vec<_> = (6_000..=60_000).filter_map(at).collect();

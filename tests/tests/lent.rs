@@ -2,17 +2,19 @@
 
 use windshear::{Sample, State};
 use windshear_tests::forged::forged;
-use windshear_tests::gen::{all_lists, long_lists, Rng, CALM};
+use windshear_tests::gen::{all_lists, dropped_lists, long_lists, Rng, CALM};
 use windshear_tests::library::{expected, in_order, sent};
 
-/// All bytes of a state: it has no padding.
+/// All bytes of a state but for the six of padding at its end.
 fn bytes(state: &State) -> Vec<u8> {
     let c = &state.core;
     let sums = in_order(&c.sums).map(i64::to_ne_bytes).concat();
     let wide = [c.along, c.mode, c.command].map(i32::to_ne_bytes).concat();
-    let narrow = [c.seen, c.red, c.amber, c.voice, c.guidance, c.place]
-        .map(u16::to_ne_bytes)
-        .concat();
+    let narrow = [
+        c.seen, c.red, c.amber, c.voice, c.guidance, c.place, c.frame,
+    ]
+    .map(u16::to_ne_bytes)
+    .concat();
     let bytes = [
         state.held.map(i32::to_ne_bytes).concat(),
         sums,
@@ -20,7 +22,7 @@ fn bytes(state: &State) -> Vec<u8> {
         narrow,
     ]
     .concat();
-    assert_eq!(bytes.len(), size_of::<State>());
+    assert_eq!(bytes.len() + 6, size_of::<State>());
     bytes
 }
 
@@ -28,7 +30,8 @@ fn bytes(state: &State) -> Vec<u8> {
 fn mixed_forms_answer_and_leave_the_same() {
     let mut rng = Rng::new(17);
     let mut compared = 0u64;
-    for (name, list) in all_lists().into_iter().chain(long_lists()) {
+    let lists = all_lists().into_iter().chain(dropped_lists());
+    for (name, list) in lists.chain(long_lists()) {
         let (mut plain, mut lent, mut mixed) = (State::fresh(), State::fresh(), State::fresh());
         for (i, s) in list.iter().enumerate() {
             let s = sent(s);

@@ -5,7 +5,7 @@ use windshear::LISTING_LINE;
 use windshear_tests::examples::examples;
 use windshear_tests::files::*;
 use windshear_tests::gen::*;
-use windshear_tests::reference::{listing, test_file};
+use windshear_tests::reference::{listing, test_file, VERSIONS};
 
 /// What stays around a lent buffer.
 const MARGIN: usize = 32;
@@ -23,7 +23,7 @@ fn lent(file: &[u8], len: usize) -> (usize, Vec<u8>, Vec<u8>) {
 /// The listing with so much room, or more; with less, nothing is written. Gives back how many were compared.
 fn compare(file: &[u8]) -> u64 {
     let text = listing(file);
-    let room = LISTING_LINE * test_file(file).map_or(1, |count| count + 2);
+    let room = LISTING_LINE * test_file(file).map_or(1, |(_, count)| count + 2);
     assert!(text.len() <= room, "the room is enough");
     for len in [0, 1, text.len(), room / 2, room - 1] {
         if len < room {
@@ -56,9 +56,10 @@ fn listings_of_good_files() {
     {
         compared += compare(&file);
     }
-    for n in (0..300).step_by(3) {
-        compared += compare(&random_file(&mut rng, n));
+    for (n, version) in (0..300).zip(VERSIONS.iter().cycle()) {
+        compared += compare(&random_file_in(&mut rng, version, n));
     }
+    compared += compare(&calm_file_in(&VERSIONS[1], 2_500));
     println!("compared {compared} listings of good files");
 }
 
@@ -76,13 +77,15 @@ fn listings_of_damaged_files() {
             .or_insert(0) += 1;
     }
     // longer than any run
-    for len in [62_409, 62_410, 65_535, 65_536, 200_000] {
-        let mut file = calm_file(2_600);
-        file.resize(len, 0);
-        compared += compare(&file);
+    for len in [62_409, 65_007, 65_009, 65_010, 65_535, 65_536, 200_000] {
+        for version in &VERSIONS {
+            let mut file = calm_file_in(version, version.most);
+            file.resize(len, 0);
+            compared += compare(&file);
+        }
     }
     println!("compared {compared} listings of damaged files, by number {came:?}");
-    assert!(came.keys().copied().eq((0..=6).chain(11..=20)));
+    assert!(came.keys().copied().eq((0..=6).chain(11..=21)));
 }
 
 /// What the listing does not need of its buffer stays as it was.
@@ -93,7 +96,7 @@ fn the_rest_of_the_buffer_stays() {
     let given = examples().map(|(_, file)| file);
     for _ in 0..500 {
         let file = damaged_file(&mut rng, &given);
-        let room = LISTING_LINE * test_file(&file).map_or(1, |count| count + 2);
+        let room = LISTING_LINE * test_file(&file).map_or(1, |(_, count)| count + 2);
         for len in [room, room + 100] {
             let (length, before, after) = lent(&file, len);
             assert!(

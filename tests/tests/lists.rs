@@ -1,7 +1,7 @@
 //! The lists are many, and the same ones every time.
 
 use std::collections::HashSet;
-use windshear_tests::gen::{all_lists, long_lists};
+use windshear_tests::gen::{all_lists, dropped_lists, long_lists};
 
 #[test]
 fn many_under_their_own_names() {
@@ -18,5 +18,7 @@ fn many_under_their_own_names() {
     );
     assert_eq!(lists, all_lists());
     assert_eq!(long_lists(), long_lists());
-    println!("compared {} lists and names", lists.len());
+    let dropped = dropped_lists();
+    assert!(dropped == dropped_lists() && dropped.len() > 1_000);
+    println!("compared {} lists and names", lists.len() + dropped.len());
 }

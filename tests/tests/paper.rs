@@ -1,4 +1,4 @@
-//! Every worked figure of the scope paper, as requests A1 and A2 of paper 02 changed it, held against the reference and the
+//! Every worked figure of the scope paper, as requests A1, A2 and A6 of paper 02 changed it, held against the reference and the
 //! library; quoted names are the scope paper's sections.
 
 use windshear_tests::both::{Both, Pair};
@@ -82,7 +82,7 @@ fn change_of_along_wind() {
     let both = Both::new();
     let mut pair = both.fresh("changes");
     let mut offer = |along, mode| {
-        pair.offer(&Sample {
+        pair.offer_next(&Sample {
             along,
             mode,
             ..CALM
@@ -258,7 +258,7 @@ fn both_conditions() {
     assert_eq!(pair.windows_met(-1), [200, 180, 160, 140]);
     let alerts = |pair: &mut Pair, n| -> Vec<u8> {
         let calm = [CALM].into_iter().cycle().take(n);
-        calm.map(|s| pair.offer(&s).unwrap().alert).collect()
+        calm.map(|s| pair.offer_next(&s).unwrap().alert).collect()
     };
     assert_eq!(alerts(&mut pair, 70), [2; 70]);
     assert!(pair.windows_met(-1).is_empty());
@@ -594,10 +594,7 @@ fn accessors() {
     let both = Both::new();
     let mut pair = both.fresh("counted");
     let unit = &pair.unit;
-    assert_eq!(
-        (unit.last_along(), unit.last_mode(), unit.guidance_counted()),
-        (None, None, None)
-    );
+    assert_eq!((unit.last(), unit.guidance_counted()), (None, None));
     assert_eq!(
         (
             unit.red_lit_for(),
@@ -628,20 +625,14 @@ fn accessors() {
         );
     }
     let unit = &pair.unit;
-    assert_eq!(
-        (unit.last_along(), unit.last_mode()),
-        (Some(2_000), Some(1))
-    );
+    assert_eq!((unit.last(), unit.frames()), (list.last(), 1_060));
     // The answers show what is held, and the windows have it cut.
     assert_eq!(shears[..3], [71_429, 2_098_349 + 71_429, 71_429]);
     let entries = unit.last_entries(list.len() + 1);
     assert_eq!(entries[list.len() - 3..], [CUT, CUT, CUT, 0]);
-    pair.offer(&Sample { mode: 0, ..CALM }).unwrap();
+    pair.offer_next(&Sample { mode: 0, ..CALM }).unwrap();
     let unit = &pair.unit;
-    assert_eq!(
-        (unit.voice_since(), unit.red_lit_for(), unit.last_mode()),
-        (0, 1_001, Some(0))
-    );
+    assert_eq!((unit.voice_since(), unit.red_lit_for()), (0, 1_001));
     both.done();
 }
 
@@ -706,6 +697,7 @@ fn example() -> Vec<Record> {
         vs1: 10_000,
         mode: 1,
         deselect: 0,
+        frame: 0,
     };
     [(0.0, 0.0), (20.0, 0.0), (20.0, -10.0)]
         .map(record)
@@ -713,9 +705,12 @@ fn example() -> Vec<Record> {
 }
 
 fn file(both: &Both, records: &[Record]) -> Vec<u8> {
-    let mut bytes = both.write_header(records.len() as u32, 8).unwrap().to_vec();
+    let mut bytes = both
+        .write_header(1, records.len() as u32, 8)
+        .unwrap()
+        .to_vec();
     for record in records {
-        bytes.extend(both.write_record(record, 24).unwrap());
+        bytes.extend(both.write_record(1, record, 24).unwrap());
     }
     bytes
 }
@@ -725,7 +720,7 @@ fn file(both: &Both, records: &[Record]) -> Vec<u8> {
 fn written_bytes() {
     let both = Both::new();
     assert_eq!(
-        both.write_header(0x0a21, 8),
+        both.write_header(1, 0x0a21, 8),
         Ok([b'W', b'S', b'R', 1, 0, 0, 0x21, 0x0a])
     );
     let record = Record {
@@ -734,7 +729,7 @@ fn written_bytes() {
         deselect: 1,
         ..example()[2]
     };
-    let bytes = both.write_record(&record, 24).unwrap();
+    let bytes = both.write_record(1, &record, 24).unwrap();
     let expected = [
         0, 0, 0, 0x80, 0, 0, 0x20, 0xc1, 0, 0, 0x0c, 0x43, // -0, -10 and 140 kt
         0x90, 0x01, 0x88, 0x13, 0x20, 0x4e, 0x44, 0xfd, 0x10,
@@ -940,13 +935,13 @@ fn record_refusals() {
         along: 200_f32.to_bits(),
         ..good
     };
-    assert!(both.write_record(&at_end, 24).is_ok());
+    assert!(both.write_record(1, &at_end, 24).is_ok());
     let deselect_bad = [[0; 23].as_slice(), &[9]].concat();
     for (record, number) in cases {
         assert_eq!(
             (
-                both.write_record(&record, 24),
-                both.write_record(&record, 23)
+                both.write_record(1, &record, 24),
+                both.write_record(1, &record, 23)
             ),
             (Err(number), Err(7))
         );
@@ -960,19 +955,22 @@ fn record_refusals() {
     both.done();
 }
 
-/// "Refusal numbers": writing a header tests 5, then 7.
+/// "Refusal numbers": writing a header tests 5, then 7, in version 1.
 #[test]
 fn header_refusals() {
     let both = Both::new();
     assert_eq!(
-        (both.write_header(2_601, 9), both.write_header(u32::MAX, 8)),
+        (
+            both.write_header(1, 2_601, 9),
+            both.write_header(1, u32::MAX, 8)
+        ),
         (Err(5), Err(5))
     );
     assert_eq!(
-        (both.write_header(2_600, 7), both.write_header(0, 9)),
+        (both.write_header(1, 2_600, 7), both.write_header(1, 0, 9)),
         (Err(7), Err(7))
     );
-    assert!(both.write_header(2_600, 8).is_ok());
+    assert!(both.write_header(1, 2_600, 8).is_ok());
     both.done();
 }
 

@@ -4,7 +4,7 @@
 use std::collections::BTreeMap;
 use windshear_tests::examples::examples;
 use windshear_tests::files::*;
-use windshear_tests::gen::{all_lists, long_lists, Rng};
+use windshear_tests::gen::{all_lists, dropped_lists, long_lists, Rng};
 use windshear_tests::lend::lend;
 use windshear_tests::library::refused;
 use windshear_tests::plain::{self, Totals};
@@ -108,14 +108,15 @@ fn damaged_files() {
         let file = damaged_file(&mut rng, &kept);
         compared.run(&file, some_len(&mut rng, &file));
     }
-    compared.done("damaged files", (0..=7).chain(11..=20), 40_005, 300_000);
+    compared.done("damaged files", (0..=7).chain(11..=21), 40_005, 300_000);
 }
 
 /// Every list as lone samples; a refused one leaves the unit as it was.
 #[test]
 fn lone_samples() {
     let (mut lists, mut compared) = (0u64, 0u64);
-    for (name, list) in all_lists().into_iter().chain(long_lists()) {
+    let all = all_lists().into_iter().chain(dropped_lists());
+    for (name, list) in all.chain(long_lists()) {
         let (mut unit, mut want) = (plain::Unit::new(), reference::Unit::new());
         for (i, s) in list.iter().enumerate() {
             let before = unit.clone();

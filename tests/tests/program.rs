@@ -11,9 +11,9 @@ use std::path::{Path, PathBuf};
 use std::process::{Child, Command};
 use std::time::Duration;
 use windshear_tests::examples::{examples, FOLDER};
-use windshear_tests::files::file_of_samples;
-use windshear_tests::gen::CALM;
-use windshear_tests::reference::{listing, Sample, RANGES};
+use windshear_tests::files::{calm_file_in, file_of_samples, samples_in};
+use windshear_tests::gen::{numbered, CALM};
+use windshear_tests::reference::{listing, Sample, RANGES, VERSIONS};
 use windshear_tests::shell::{after, command, compare, empty, ended, left, reset_after, run, run_on, run_to, signal, ROOT};
 
 /// The program itself, which `rt check listing` builds.
@@ -38,9 +38,9 @@ fn example(name: &str) -> (PathBuf, String) {
     (path, text)
 }
 
-/// The longest run.
-fn longest() -> Vec<u8> {
-    file_of_samples(&[CALM; 2_600])
+/// The longest run of each version.
+fn longest() -> [Vec<u8>; 2] {
+    VERSIONS.map(|version| calm_file_in(&version, version.most))
 }
 
 fn unread(reason: &str) -> String {
@@ -65,8 +65,8 @@ fn input_that_cannot_be_read_is_no_run() {
         ("reset at once", run_on(&mut program(), reset_after(b"")), fault("Connection reset by peer")),
         ("reset in the header", run_on(&mut program(), reset_after(b"WSR")), fault("Connection reset by peer")),
         ("reset after a whole run", run_on(&mut program(), reset_after(&run_file)), fault("Connection reset by peer")),
-        // nothing past 62,409 bytes is read, so what would fail there is not seen
-        ("reset past the bound", run_on(&mut program(), reset_after(&[0; 62_409])), left(0, "refused 2 at 0\n", "")),
+        // nothing past 65,009 bytes is read, so what would fail there is not seen
+        ("reset past the bound", run_on(&mut program(), reset_after(&[0; 65_009])), left(0, "refused 2 at 0\n", "")),
         ("whole", run_on(&mut program(), File::open(&gust).unwrap()), left(0, &text, "")),
     ];
     compare(cases, "inputs of the program");
@@ -190,12 +190,15 @@ fn refusals() -> Vec<(u8, usize, Vec<u8>)> {
         (1, 0, Vec::new()),
         (1, 0, good[..7].to_vec()),
         (2, 0, with(0, b'w')),
-        (3, 0, with(3, 2)),
+        (3, 0, with(3, 3)),
         (4, 0, with(5, 1)),
         (5, 0, with(7, 11)),
         (6, 0, with(6, 4)),
-        (6, 0, longest().into_iter().chain([0; 100]).collect()),
+        // the other version's length
+        (6, 0, with(3, 2)),
+        (21, 2, samples_in(&VERSIONS[1], &numbered(&[CALM; 4], 65_535, |i| if i == 2 { 21 } else { 20 }))),
     ];
+    refusals.extend(longest().map(|file| (6, 0, [&*file, &[0; 100]].concat())));
     for (field, (_, high)) in RANGES.iter().enumerate() {
         let mut fields = CALM.fields();
         fields[field] = high + 1;
@@ -208,7 +211,8 @@ fn refusals() -> Vec<(u8, usize, Vec<u8>)> {
 fn a_listing_ends_with_0_and_a_refusal_with_1() {
     let folder = folder("verdicts");
     let mut files: Vec<_> = examples().into_iter().map(|(_, file)| file).collect();
-    files.extend([file_of_samples(&[]), longest()]);
+    files.push(file_of_samples(&[]));
+    files.extend(longest());
     let mut verdicts: Vec<_> = files.into_iter().map(|file| (listing(&file), file)).collect();
     verdicts.extend(refusals().into_iter().map(|(number, place, file)| (format!("refused {number} at {place}\n"), file)));
     let mut cases = Vec::new();
@@ -316,11 +320,13 @@ fn nothing_is_left_behind() {
 #[test]
 fn the_stack_that_the_readme_names_is_enough() {
     let path = folder("stack").join("longest");
-    fs::write(&path, longest()).unwrap();
-    let text = listing(&longest());
-    let cases = vec![
-        ("256 KB", run(&mut after("ulimit -s 256", &list(&path))), left(0, &text, "")),
-        ("128 KB", run(&mut after("ulimit -s 128", &list(&path))), left(2, "", "list: the program ended with status 139\n")),
-    ];
+    let mut cases = Vec::new();
+    for file in longest() {
+        fs::write(&path, &file).unwrap();
+        let text = listing(&file);
+        cases.push(("256 KB", run(&mut after("ulimit -s 256", &list(&path))), left(0, &text, "")));
+        let crashed = left(2, "", "list: the program ended with status 139\n");
+        cases.push(("128 KB", run(&mut after("ulimit -s 128", &list(&path))), crashed));
+    }
     compare(cases, "listings in a small stack");
 }

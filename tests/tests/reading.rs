@@ -9,19 +9,21 @@ use windshear_tests::both::Both;
 use windshear_tests::examples::examples;
 use windshear_tests::files::*;
 use windshear_tests::gen::*;
-use windshear_tests::library::{sent, sent_record};
-use windshear_tests::reference::{read_record, Reading, Record};
+use windshear_tests::library::{accepted_file, refused_file, sent, sent_record};
+use windshear_tests::reference::{read_record, Reading, Record, Version, VERSIONS};
 
 #[path = "../../bindings/rust/examples/offer.rs"]
 mod offer;
 
-/// Places beyond every file's count, with those at which 24 × place, or 8 more, passes the end of
+/// Places beyond every file's count, with those at which 24 or 26 × place, or 8 more, passes the end of
 /// the numbers and comes near 0.
 fn far_places() -> Vec<usize> {
     let most = usize::MAX;
-    let wraps = [most / 24, most / 24 + 1, most / 8, most / 3, most / 3 + 1];
+    let wraps = [24, 26, 13, 8, 3]
+        .into_iter()
+        .flat_map(|n| [most / n, most / n + 1]);
     let bits = [1 << 16, (1 << 16) + 1, 1 << 32, 1 << 61, 1 << 63];
-    [2_600, 2_601, 65_535, most - 1, most]
+    [2_500, 2_600, 2_601, 65_535, most - 1, most]
         .into_iter()
         .chain(wraps)
         .chain(bits)
@@ -47,8 +49,13 @@ impl Tally {
             Ok(Reading { record, exact, .. }) => {
                 self.found += 1;
                 self.exact += u64::from(exact);
-                let bytes = self.both.write_record(&record, 24).unwrap();
-                assert_eq!(bytes, file[8 + 24 * place..][..24]);
+                let Version {
+                    number,
+                    record: len,
+                    ..
+                } = *version_of(file);
+                let bytes = self.both.write_record(number.into(), &record, len).unwrap();
+                assert_eq!(bytes, file[8 + len * place..][..len]);
                 Ok(record)
             }
             Err(number) => {
@@ -76,6 +83,8 @@ impl Tally {
             match test.refusal {
                 0 => assert_eq!(read.is_ok(), place < count),
                 number @ 1..=6 => assert_eq!(read, Err(Some(number as u8))),
+                // 21 is of two records, and each of them is read
+                21 if place == bad => assert!(read.is_ok()),
                 _ if place < bad => assert!(read.is_ok()),
                 number if place == bad => assert_eq!(read, Err(Some(number as u8))),
                 _ => (),
@@ -103,31 +112,22 @@ impl Tally {
     }
 }
 
-/// What a file of so many good records is answered.
+/// What a version 1 file of so many good records is answered.
 fn accepted(count: usize) -> FileTest {
-    FileTest {
-        count: count as u16,
-        ..FileTest::default()
-    }
-}
-
-/// What a file is answered whose first bad record is at a place.
-fn bad_record(number: u8, place: usize) -> FileTest {
-    FileTest {
-        refusal: number.into(),
-        place: place as u16,
-        count: 0,
-    }
+    accepted_file(&VERSIONS[0], count)
 }
 
 /// A record written by the library at a place of a file of calm ones, whose header it wrote too.
 /// Gives back the file; where the record is refused, its bytes are there all the same.
 fn written(both: &Both, record: &Record, count: usize, place: usize) -> Vec<u8> {
-    let mut file = both.write_header(count as u32, 8).unwrap().to_vec();
+    let mut file = both.write_header(1, count as u32, 8).unwrap().to_vec();
     for i in 0..count {
         let calm = record_of(&CALM, 0.0);
         let record = if i == place { record } else { &calm };
-        file.extend(both.write_record(record, 24).unwrap_or(record.bytes()));
+        file.extend(
+            both.write_record(1, record, 24)
+                .unwrap_or(record.bytes().into()),
+        );
     }
     file
 }
@@ -157,7 +157,7 @@ fn every_value_in_every_field() {
                 assert!(number == 0 || u16::from(number) == named);
                 let test = match number {
                     0 => accepted(3),
-                    _ => bad_record(number, place),
+                    _ => refused_file(number, place),
                 };
                 assert_eq!(tally.whole(&file), test);
             }
@@ -194,7 +194,7 @@ fn extremes_together() {
         assert_eq!(read, number.map_or(Ok(record), |n| Err(Some(n))));
         assert_eq!(
             tally.test(&file),
-            number.map_or(accepted(3), |n| bad_record(n, place))
+            number.map_or(accepted(3), |n| refused_file(n, place))
         );
         assert_eq!(tally.read(&file, 3 + place), Err(None));
     }
@@ -248,7 +248,7 @@ fn random_files() {
             }
         }
         let number = 11 + first.1.trailing_zeros() as u8;
-        assert_eq!(tally.whole(&file), bad_record(number, first.0));
+        assert_eq!(tally.whole(&file), refused_file(number, first.0));
     }
     tally.done("random files, then spoiled", &[11..=20]);
 }
@@ -283,7 +283,7 @@ fn headers_and_lengths() {
         assert_eq!(tally.whole(&file).refusal, named);
     }
     assert_eq!(tally.whole(&calm_file(3)[..7]).refusal, SHORT);
-    assert_eq!(windshear::write_header(3, &mut [0; 9]), BUFFER);
+    assert_eq!(windshear::write_header(1, 3, &mut [0; 9]), BUFFER);
     tally.done("other headers and lengths", &[1..=6]);
 }
 
@@ -299,6 +299,8 @@ fn damaged_files() {
         assert_eq!(file[8..32], raw);
         tally.whole(&file);
     }
+    // 21 refuses whole files alone
+    assert!(tally.tested.remove(&21) > Some(100));
     tally.done("damaged files and random bytes", &[1..=6, 11..=20]);
     tally.both_kinds(10_000);
 }

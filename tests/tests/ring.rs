@@ -3,12 +3,12 @@
 use std::collections::HashSet;
 use windshear::{Core, Sample, State, Sums};
 use windshear_tests::both::Both;
-use windshear_tests::forged::{bases, random_entries, step, LIMIT};
-use windshear_tests::gen::{gusts, long_lists, with_refused, Rng, CALM, LONG};
+use windshear_tests::forged::{after, bases, random_entries, some_frames, step, LIMIT};
+use windshear_tests::gen::{dropping, gusts, long_lists, numbered, with_refused, Rng, CALM, LONG};
 use windshear_tests::library::{entries, expected, sent, state_of, summed, with_entries};
 use windshear_tests::reference::{entry, Unit, WINDOWS};
 
-/// A hundred turns of the ring: every answer and every state is that of the reference, which keeps a plain list.
+/// A hundred turns of the ring or more: every answer and every state is that of the reference, which keeps a plain list.
 #[test]
 fn a_hundred_turns() {
     let both = Both::new();
@@ -23,6 +23,8 @@ fn a_hundred_turns() {
             }
         }
         assert_eq!(pair.unit.accepted(), LONG as usize, "{name}");
+        let dropped = pair.unit.frames() > LONG as u64;
+        assert_eq!(dropped, name.ends_with("dropped"), "{name}");
         assert!(refused > 3_000, "{name}: {refused}");
     }
     assert_eq!(alerts, HashSet::from([0, 1, 2]));
@@ -33,12 +35,13 @@ fn a_hundred_turns() {
 /// Entries at their limits: no sum overflows, and what is left passes again, for two turns of the ring.
 #[test]
 fn entries_at_their_limits() {
-    let mut compared = 0u64;
+    let (mut rng, mut compared) = (Rng::new(88), 0u64);
     for held in [-LIMIT, LIMIT] {
         for place in [0, 1, 100, 199] {
             for alongs in [[20_000, -20_000], [20_000, 20_000], [-20_000, -20_000]] {
                 let mut state = with_entries(&State::fresh(), place, &[held; 200]);
                 assert_eq!(state.core.sums.s200, 200 * i64::from(held));
+                let mut entered = 0;
                 for i in 0..450 {
                     let s = Sample {
                         along: alongs[i % 2],
@@ -46,10 +49,14 @@ fn entries_at_their_limits() {
                         airspeed: 6_000,
                         ..sent(&CALM)
                     };
-                    step(&mut state, s);
+                    // the first stands for one whatever its number
+                    let frames = if i % 3 == 0 { 1 } else { some_frames(&mut rng) };
+                    step(&mut state, frames, s);
+                    entered += usize::from(frames);
                     compared += 4;
                 }
-                assert_eq!(usize::from(state.core.place), (place + 150) % 200);
+                let turned = 200 - entered % 200;
+                assert_eq!(usize::from(state.core.place), (place + turned) % 200);
             }
         }
     }
@@ -71,10 +78,12 @@ fn unturned(state: &State) -> State {
 #[test]
 fn turned_rings() {
     let mut rng = Rng::new(81);
-    let list = gusts(&mut rng, 450);
-    let list = with_refused(&mut rng, list);
+    let gusty = gusts(&mut rng, 450);
     let mut compared = 0u64;
     for (name, base) in bases() {
+        let first = base.core.frame.wrapping_add(1);
+        let list = numbered(&gusty, first, |i| [1, 1, 2, 20][i % 4]);
+        let list = with_refused(&mut rng, list);
         let mut states: Vec<_> = (0..200)
             .map(|place| with_entries(&base, place, &entries(&base)))
             .collect();
@@ -124,16 +133,16 @@ fn right_by_chance() {
                 let mut state = with_entries(&base, base.core.place.into(), &list);
                 state.core.sums = base.core.sums;
                 let passes = windows_of(newer) == windows_of(older);
-                let (answer, after) = state.offer(sent(&CALM));
+                let (answer, left) = state.offer(after(&state, 1, sent(&CALM)));
                 assert_eq!(
                     answer.refusal,
                     if passes { 0 } else { 8 },
                     "{newer} {older}"
                 );
-                assert_eq!(after == state, !passes, "{newer} {older}");
+                assert_eq!(left == state, !passes, "{newer} {older}");
                 compared += 2;
                 if passes {
-                    step(&mut state, sent(&CALM));
+                    step(&mut state, some_frames(&mut rng), sent(&CALM));
                     passed += 1;
                     compared += 4;
                 }
@@ -160,6 +169,7 @@ fn right_by_chance() {
         for s in gusts(&mut rng, 450) {
             step(
                 &mut state,
+                some_frames(&mut rng),
                 Sample {
                     height: 400,
                     ..sent(&s)
@@ -191,7 +201,7 @@ fn read_from_another_place() {
             let same = 20 % period == 0 || (usize::from(place) + 200 - 57).is_multiple_of(period);
             assert_eq!(right, same, "period {period}, place {place}");
             if right {
-                step(&mut state, sent(&CALM));
+                step(&mut state, some_frames(&mut rng), sent(&CALM));
             } else {
                 assert_eq!(state.offer(sent(&CALM)), (expected(&Err(8)), state));
             }
@@ -201,8 +211,8 @@ fn read_from_another_place() {
     println!("compared {compared} answers and states of rings read from another place");
 }
 
-/// A state whose ring and sums a host builds from the shears that it was answered, each cut (02, A1), as the
-/// header says, the rest of the core taken over, is as good as the one that the samples left.
+/// A state whose ring and sums a host builds from the shears that it was answered, each cut (02, A1) and once for
+/// each frame (02, A6), as the header says, the rest of the core taken over, is as good as the one that the samples left.
 #[test]
 fn built_by_the_host() {
     let mut rng = Rng::new(84);
@@ -213,10 +223,11 @@ fn built_by_the_host() {
         let mut unit = Unit::new();
         let mut state = State::fresh();
         let mut cut = Vec::new();
-        for s in gusts(&mut rng, samples) {
+        let list = gusts(&mut rng, samples);
+        for s in dropping(&mut rng, &list) {
             let answer = state.offer_lent(sent(&s));
             assert_eq!(answer, expected(&unit.offer(&s)));
-            cut.push(entry(answer.shear));
+            cut.resize(unit.frames() as usize, entry(answer.shear));
         }
         let newest_first = || cut.iter().rev().copied().take(200);
         for place in [0, 1, 57, 198, 199] {
@@ -229,6 +240,9 @@ fn built_by_the_host() {
             built.core.sums = Sums::of(newest_first());
             let (mut unit, mut state) = (unit.clone(), state);
             let list = gusts(&mut rng, 230);
+            let list = numbered(&list, state.core.frame.wrapping_add(1), |i| {
+                i as u16 % 3 + 1
+            });
             for s in with_refused(&mut rng, list) {
                 let want = expected(&unit.offer(&s));
                 assert_eq!(state.offer_lent(sent(&s)), want, "{samples} samples");

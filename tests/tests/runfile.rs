@@ -8,7 +8,7 @@ use windshear_tests::examples::examples;
 use windshear_tests::files::*;
 use windshear_tests::gen::*;
 use windshear_tests::library::{converted, refused};
-use windshear_tests::reference::{self, read_record, Record};
+use windshear_tests::reference::{self, read_record, Record, VERSIONS};
 
 /// Every pattern that there is.
 #[test]
@@ -52,17 +52,19 @@ impl Tally {
         *self.came.entry(number).or_default() += 1;
     }
 
-    fn header(&mut self, count: u32, len: usize) -> Vec<u8> {
-        let written = self.both.write_header(count, len);
+    fn header(&mut self, version: u32, count: u32, len: usize) -> Vec<u8> {
+        let written = self.both.write_header(version, count, len);
         self.count(written.err().unwrap_or(0).into());
         written.map_or(Vec::new(), Vec::from)
     }
 
-    fn record(&mut self, r: &Record, len: usize) -> (u16, Vec<u8>) {
-        let written = self.both.write_record(r, len);
-        let number = written.err().unwrap_or(0).into();
+    fn record(&mut self, version: u32, r: &Record, len: usize) -> (u16, Vec<u8>) {
+        let (number, bytes) = match self.both.write_record(version, r, len) {
+            Ok(bytes) => (0, bytes),
+            Err(number) => (number.into(), Vec::new()),
+        };
         self.count(number);
-        (number, written.map_or(Vec::new(), Vec::from))
+        (number, bytes)
     }
 
     /// One run with an answer buffer so long.
@@ -111,7 +113,7 @@ fn lists_written_and_run() {
         let mut records = Vec::new();
         for s in &list {
             let record = record_of(s, within_half(&mut rng));
-            let (number, bytes) = written.record(&record, 24);
+            let (number, bytes) = written.record(1, &record, 24);
             assert_eq!(number, reference::refusal(s).into(), "{name}: {s:?}");
             if number == 0 {
                 assert_eq!(record.sample(), Ok(*s));
@@ -119,7 +121,7 @@ fn lists_written_and_run() {
             }
         }
         let count = records.len() / 24;
-        let file = [written.header(count as u32, 8), records].concat();
+        let file = [written.header(1, count as u32, 8), records].concat();
         assert_eq!(run.run(&file, 10 * count).0, Outcome::default(), "{name}");
     }
     written.done("headers and records written", &[0..=0, 11..=20]);
@@ -127,16 +129,37 @@ fn lists_written_and_run() {
     run.lit(150_000);
 }
 
+/// 02, A6: 3, then 5, then 7, in both versions and in none.
 #[test]
 fn headers_written() {
     let mut tally = Tally::default();
     let large = [65_535, 65_536, 65_537, 68_136, 1 << 24, 1 << 31, u32::MAX];
-    for count in (0..=2_700).chain(large) {
-        for len in [0, 1, 6, 7, 8, 9, 10, 16, 24, 32] {
-            tally.header(count, len);
+    for version in [
+        0,
+        1,
+        2,
+        3,
+        255,
+        256,
+        65_535,
+        65_536,
+        65_537,
+        65_538,
+        1 << 31,
+        u32::MAX,
+    ] {
+        let is_known = version == 1 || version == 2;
+        for count in (0..=2_700)
+            .step_by(if is_known { 1 } else { 100 })
+            .chain(large)
+        {
+            for len in [0, 1, 6, 7, 8, 9, 10, 16, 24, 26, 32] {
+                let header = tally.header(version, count, len);
+                assert!(header.is_empty() || header[3] == version as u8 && is_known);
+            }
         }
     }
-    tally.done("headers written", &[0..=0, 5..=5, 7..=7]);
+    tally.done("headers written", &[0..=0, 3..=3, 5..=5, 7..=7]);
 }
 
 /// Each field at each of its values, written with buffers of all lengths, and run at every place of a file.
@@ -146,10 +169,10 @@ fn every_value_in_every_field() {
     for field in 0..10 {
         for value in field_values(field) {
             let record = calm_with(field, value);
-            let number = written.record(&record, 24).0;
+            let number = written.record(1, &record, 24).0;
             assert!(number == 0 || number == 11 + field as u16);
             for len in (0..=30).chain([48, 240]) {
-                written.record(&record, len);
+                written.record(1, &record, len);
             }
             for place in 0..3 {
                 let mut file = calm_file(3);
@@ -180,8 +203,8 @@ fn first_bad_record_and_its_first_number() {
         }
         let number = 11 + set.trailing_zeros() as u16;
         assert_eq!(tally.runs(&file), refused(number, place));
-        assert_eq!(tally.record(&record, 24).0, number);
-        tally.record(&record, 23);
+        assert_eq!(tally.record(1, &record, 24).0, number);
+        tally.record(1, &record, 23);
     }
     let long = random_file(&mut rng, 2_600);
     assert_eq!(tally.runs(&long), Outcome::default());
@@ -254,10 +277,12 @@ fn damaged_files() {
         let file = damaged_file(&mut rng, &kept);
         let len = some_len(&mut rng, &file);
         tally.run(&file, len);
-        let raw: [u8; 24] = std::array::from_fn(|_| rng.draw() as u8);
-        tally.record(&read_record(&raw), 24);
+        let raw: [u8; 26] = std::array::from_fn(|_| rng.draw() as u8);
+        let version = rng.pick(&VERSIONS);
+        let record = read_record(&raw[..version.record]);
+        tally.record(version.number.into(), &record, version.record);
     }
-    tally.done("damaged files and random records", &[0..=7, 11..=20]);
+    tally.done("damaged files and random records", &[0..=7, 11..=21]);
     tally.lit(20_000);
 }
 

@@ -3,8 +3,8 @@
 use std::collections::{BTreeMap, HashSet};
 use windshear::{Core, Sample, State};
 use windshear_tests::both::Both;
-use windshear_tests::forged::{forged, step, LIMIT};
-use windshear_tests::gen::{self, all_lists};
+use windshear_tests::forged::{after as numbered_after, forged, some_frames, step, LIMIT};
+use windshear_tests::gen::{self, all_lists, dropped_lists, Rng};
 use windshear_tests::library::{expected, sent, with_entries};
 use windshear_tests::reference::CUT;
 
@@ -16,10 +16,11 @@ fn every_list_answers_and_leaves_what_the_reference_does() {
     let mut refusals = HashSet::new();
     let mut seen = BTreeMap::new();
     let mut answers = 0u64;
-    for (name, list) in all_lists() {
+    for (name, list) in all_lists().into_iter().chain(dropped_lists()) {
         let mut pair = both.fresh(&name);
         let mut last = None;
         let (mut red_for, mut amber_for, mut counted) = (0, 0, None);
+        let (mut voice_for, mut seen_frames) = (0, 0);
         for s in &list {
             let answer = match pair.offer(s) {
                 Ok(answer) => answer,
@@ -36,7 +37,8 @@ fn every_list_answers_and_leaves_what_the_reference_does() {
             assert!(answer.guidance == unit.guidance_counted().is_some());
             assert!(unit.guidance_counted() < Some(600));
             let comes_on = unit.red_lit_for() == 1;
-            let climbed = counted == Some(599) && !answer.guidance && s.deselect == 0;
+            let climbed = counted.is_some() && !answer.guidance && s.deselect == 0;
+            let frames = unit.frames() - seen_frames;
             let mode_change = last.is_some_and(|mode| mode != s.mode);
             let events = [
                 ("red", answer.alert == 2),
@@ -71,6 +73,34 @@ fn every_list_answers_and_leaves_what_the_reference_does() {
                 ),
                 ("climbed away", climbed),
                 ("climbed away at a coming-on", climbed && comes_on),
+                ("20 frames at once", frames == 20),
+                (
+                    "coming-on with more frames than one",
+                    comes_on && frames > 1,
+                ),
+                (
+                    "red out past its hold's end",
+                    red_for > 0 && red_for < 60 && red_for + frames > 61 && answer.alert != 2,
+                ),
+                (
+                    "voice out past its end",
+                    (1..=72).contains(&voice_for) && unit.voice_since() > 73,
+                ),
+                (
+                    "a cycle passed over",
+                    voice_for > 0
+                        && voice_for <= 24
+                        && unit.voice_since() > 25
+                        && answer.voice == 2,
+                ),
+                (
+                    "climbed past 600",
+                    climbed && counted.is_some_and(|n| n < 599 && n + frames > 600),
+                ),
+                (
+                    "command at 15,000 sooner than a whole step",
+                    frames > 1 && answer.guidance && answer.command == 15_000,
+                ),
                 (
                     "599 then a break",
                     counted == Some(599) && unit.guidance_counted() == Some(0),
@@ -87,9 +117,10 @@ fn every_list_answers_and_leaves_what_the_reference_does() {
             }
             (last, counted) = (Some(s.mode), unit.guidance_counted());
             (red_for, amber_for) = (unit.red_lit_for(), unit.amber_lit_for());
+            (voice_for, seen_frames) = (unit.voice_since(), unit.frames());
         }
     }
-    assert_eq!(refusals, (11..=20).collect());
+    assert_eq!(refusals, (11..=21).collect());
     assert!(seen.values().all(|&times| times > 0), "{seen:?}");
     // so that nothing agrees only because all is dark, or nothing is cut
     let common = [
@@ -119,7 +150,7 @@ fn calm() -> Sample {
 
 #[test]
 fn forged_states_are_refused_by_8_exactly_at_its_limits() {
-    let mut compared = 0u64;
+    let (mut rng, mut compared) = (Rng::new(86), 0u64);
     let (mut passed, mut refused) = (0, 0);
     let bad = Sample {
         along: 20_001,
@@ -129,7 +160,7 @@ fn forged_states_are_refused_by_8_exactly_at_its_limits() {
         if t.passes {
             passed += 1;
             let mut state = t.state;
-            step(&mut state, calm());
+            step(&mut state, some_frames(&mut rng), calm());
         } else {
             refused += 1;
             assert_eq!(
@@ -139,15 +170,24 @@ fn forged_states_are_refused_by_8_exactly_at_its_limits() {
                 t.name
             );
         }
-        // 8 comes before the sample's own numbers
+        // 8 comes before the sample's own numbers, and they before 21, which a first sample never meets
+        let late = numbered_after(&t.state, 21, calm());
+        let early = Sample {
+            frame: late.frame,
+            ..bad
+        };
         let number = if t.passes { 11 } else { 8 };
-        assert_eq!(
-            t.state.offer(bad),
-            (expected(&Err(number)), t.state),
-            "{}",
-            t.name
-        );
-        compared += 4;
+        for bad in [bad, early] {
+            let refused = (expected(&Err(number)), t.state);
+            assert_eq!(t.state.offer(bad), refused, "{}", t.name);
+        }
+        let number = match t.passes {
+            true if t.state.core.seen == 0 => 0,
+            true => 21,
+            false => 8,
+        };
+        assert_eq!(t.state.offer(late).0.refusal, number, "{}", t.name);
+        compared += 6;
     }
     println!("compared {compared} answers and states of {passed} forged states that pass and {refused} that do not");
     assert!(passed > 1_000 && refused > 4_000);
@@ -174,7 +214,7 @@ fn every_place() {
 /// A state that passes 8, however forged, is answered, and what it leaves passes again.
 #[test]
 fn what_passes_is_answered_and_passes_again() {
-    let mut compared = 0u64;
+    let (mut rng, mut compared) = (Rng::new(87), 0u64);
     for held in [-LIMIT, LIMIT] {
         for n in [0, 1, 59, 60, 61, 72, 73, 74, 599, 600] {
             for command in [-30_000, 0, 14_990, 15_010, 27_000] {
@@ -205,6 +245,9 @@ fn what_passes_is_answered_and_passes_again() {
                         climb: 10_000,
                         ..calm()
                     };
+                    let frames = some_frames(&mut rng);
+                    let s = numbered_after(&t, frames, s);
+                    let frames = if t.core.seen == 0 { 1 } else { frames };
                     let (answer, after) = t.offer(s);
                     assert_eq!(answer.refusal, 0, "{:?}", t.core);
                     assert!(
@@ -214,7 +257,7 @@ fn what_passes_is_answered_and_passes_again() {
                             && after.core.guidance <= 600
                     );
                     // red by its condition or its hold, else amber by its condition
-                    let red = held > 0 || (1..60).contains(&t.core.red);
+                    let red = held > 0 || t.core.red > 0 && t.core.red + frames <= 60;
                     assert_eq!(answer.alert, if red { 2 } else { 1 }, "{:?}", t.core);
                     t = after;
                     compared += 1;

@@ -1,10 +1,11 @@
 //! 02, A4: what is promised for every waveform, tried: averages that reach a test row of 000 light its lamp at the end, shears up
 //! to 8,000 light none, and a run whose shears are at least another's has its red condition wherever that one has it. Also what is
-//! not promised. Every waveform is turned into winds, and told to the library in the plain form, lent and as a run file.
+//! not promised. Every waveform is turned into winds, and told to the library in the plain form, lent and as run files. By A6 what
+//! is promised reads the entries at the judged samples, so it is tried with dropped frames too.
 
 use windshear_tests::both::Both;
 use windshear_tests::gen::*;
-use windshear_tests::reference::{shear, Sample, CUT, RANGES};
+use windshear_tests::reference::{shear, Sample, CUT, MOST_FRAMES, RANGES};
 use windshear_tests::waveform::*;
 
 /// Each whole shear within the cut: by the vertical wind and the airspeed alone all but -1 and 1 are held exactly, unrounded within
@@ -15,7 +16,7 @@ fn winds_for_every_shear() {
     let (mut by_draft, mut missed, mut furthest) = (0u64, Vec::new(), 0);
     let (mut exact, mut next) = (0u64, 0u64);
     for held in -CUT..=CUT {
-        match draft(held, 0, RANGES[2].0) {
+        match draft(held, 0, 1, RANGES[2].0) {
             Some((vertical, airspeed)) => {
                 let fields = [vertical, airspeed, held].map(i64::from);
                 let [vertical, airspeed, held] = fields;
@@ -30,10 +31,10 @@ fn winds_for_every_shear() {
         }
         for axis in AXES {
             let mut winds = Winds::new(axis, rng.within(-500, 500));
-            let list = [0, held].map(|held| winds.hold(&mut rng, held, CALM));
+            let list = [0, held].map(|held| winds.hold(&mut rng, held, 1, CALM));
             assert_eq!(both.play(&list)[1].shear, held, "{axis:?}");
             let change = list[1].along - list[0].along;
-            let left = held - shear(change, 0, list[1].airspeed);
+            let left = held - shear(change, 1, 0, list[1].airspeed);
             match axis {
                 _ if held.abs() == 1 => assert_eq!(change.abs(), 1),
                 Axis::Vertical => assert_eq!(change, 0),
@@ -48,10 +49,10 @@ fn winds_for_every_shear() {
     }
     // at the greatest airspeed one hundredth of a knot is a shear of 1.67
     assert_eq!(missed, [-1, 1]);
-    assert_eq!([0, -1].map(|v| shear(0, v, RANGES[2].1)), [0, 2]);
+    assert_eq!([0, -1].map(|v| shear(0, 1, v, RANGES[2].1)), [0, 2]);
     for held in -GUST..=GUST {
         // with both signs turned this is -1
-        let by_change = |change| draft(held, change, RANGES[2].0).is_some();
+        let by_change = |change| draft(held, change, 1, RANGES[2].0).is_some();
         assert!([0, 1].into_iter().any(by_change), "{held}");
     }
     println!(
@@ -112,7 +113,8 @@ fn earlier(rng: &mut Rng) -> Vec<i32> {
     (0..n).map(one).collect()
 }
 
-/// The run of these shears at these heights, refused samples among them; the library shows each shear as wanted.
+/// The run of these shears at these heights, each over one frame, refused samples among them; the library shows each shear as
+/// wanted.
 fn run_of(
     both: &Both,
     rng: &mut Rng,
@@ -121,8 +123,21 @@ fn run_of(
     shears: &[i32],
     heights: &[i32],
 ) -> Run {
+    let ones = vec![1; shears.len()];
+    run_over(both, rng, name, axis, (shears, &ones), heights)
+}
+
+/// As `run_of`, each over so many frames.
+fn run_over(
+    both: &Both,
+    rng: &mut Rng,
+    name: &str,
+    axis: Axis,
+    (shears, frames): (&[i32], &[u16]),
+    heights: &[i32],
+) -> Run {
     let list = at_heights(rng, heights);
-    let list = holding(rng, axis, &list, shears);
+    let list = holding(rng, axis, &list, shears, frames);
     let run = Run::of(both, name, &with_refused(rng, list));
     assert_eq!(run.shears, shears, "{name}");
     assert_eq!(run.heights, heights, "{name}");
@@ -145,8 +160,12 @@ impl Due {
     /// where a row is reached in the band.
     fn kept(&mut self, name: &str, run: &Run) {
         for at in 0..run.alerts.len() {
-            let windows = &run.shears[(at + 1).saturating_sub(200)..=at];
-            let within = windows.iter().all(|held| held.abs() <= CUT);
+            let within = run
+                .entries(at)
+                .iter()
+                .rev()
+                .take(200)
+                .all(|held| held.abs() <= CUT);
             for (way, (sign, alert)) in WAYS.into_iter().enumerate() {
                 let mut due = false;
                 for row in run.promised(at, sign) {
@@ -240,6 +259,69 @@ fn reached_averages_are_lit() {
     both.done();
 }
 
+/// An exposure parted into samples of up to `most` frames: the frames of each, and the least shear whose entries have the sum of its
+/// part or more.
+fn parted(rng: &mut Rng, wave: &[i32], most: u16) -> (Vec<i32>, Vec<u16>) {
+    let (mut rest, mut shears, mut frames) = (wave, Vec::new(), Vec::new());
+    while !rest.is_empty() {
+        let n = usize::from(up_to(rng, most)).min(rest.len());
+        let sum: i32 = rest[..n].iter().sum();
+        shears.push(-(-sum).div_euclid(n as i32));
+        frames.push(n as u16);
+        rest = &rest[n..];
+    }
+    (shears, frames)
+}
+
+/// 02, A6: as `reached_averages_are_lit`, read from the entries at the judged samples. The exposure's first entries may be part of a
+/// sample that is older.
+#[test]
+fn reached_averages_are_lit_over_frames() {
+    let (mut rng, both, mut due) = (Rng::new(411), Both::new(), Due::default());
+    let (mut ends, mut within) = (0u64, 0u64);
+    for seed in 0..24 {
+        for (name, shape) in SHAPES {
+            for ((sign, alert), row) in ways_and_rows() {
+                let name = format!("{name} {row:?} {sign} {seed}");
+                let most = rng.pick(&[2, 7, MOST_FRAMES]);
+                let wave = shape(&mut rng, row, row.sum());
+                let (mut wave, mut over) = parted(&mut rng, &wave, most);
+                let older = rng.within(0, (MOST_FRAMES - over[0]).into());
+                over[0] += older as u16;
+                wave.iter_mut().for_each(|held| *held *= sign);
+                let mut shears = earlier(&mut rng);
+                if shears.is_empty() {
+                    // the first sample stands for one, and may not hold every shear
+                    shears.push(0);
+                }
+                let mut frames: Vec<_> = shears.iter().map(|_| up_to(&mut rng, most)).collect();
+                frames[0] = 1;
+                shears.append(&mut wave);
+                frames.append(&mut over);
+                let heights = heights(&mut rng, shears.len());
+                let axis = rng.pick(&AXES);
+                let told = (&shears[..], &frames[..]);
+                let run = run_over(&both, &mut rng, &name, axis, told, &heights);
+                let end = shears.len() - 1;
+                assert!(reaches(run.entries(end), row, sign), "{name}");
+                let lit = run.alerts[end];
+                assert!(lit == alert || lit == 2, "{name}: {lit}");
+                due.kept(&name, &run);
+                ends += 1;
+                within += u64::from(older > 0);
+            }
+        }
+    }
+    println!(
+        "compared {ends} ends of exposures over dropped frames, {within} of them from within a sample; at all samples the promise was due \
+         by way and row {:?}, at the band's ends {:?}",
+        due.rows, due.ends
+    );
+    assert!(due.rows.as_flattened().iter().all(|&n| n > 3_000));
+    assert!(due.ends.as_flattened().iter().all(|&n| n > 1_000));
+    both.done();
+}
+
 /// Waveforms with one hundred-thousandth less in sum than a row asks for, after zeros: that row is not reached, and where no other
 /// is, both lamps are dark. The lamp comes on exactly where the first row is reached.
 #[test]
@@ -300,18 +382,28 @@ const BELOW: [(&str, Below); 6] = [
 /// The samples of each list.
 const MANY: i32 = 4_000;
 
-/// The run of so many samples in the band, or most of them, whose shears are chosen as they come; and turned for sign -1.
+/// Frames that a sample stands for, up to so many.
+fn up_to(rng: &mut Rng, most: u16) -> u16 {
+    match most {
+        1 => 1,
+        _ => rng.within(1, most.into()) as u16,
+    }
+}
+
+/// The run of so many samples in the band, or most of them, each over up to `most` frames, whose shears are chosen as they come; and
+/// turned for sign -1.
 fn chosen(
     both: &Both,
     rng: &mut Rng,
-    (axis, sign): (Axis, i32),
+    (axis, sign, most): (Axis, i32, u16),
     name: &str,
     mut choose: impl FnMut(&mut Rng, i32, i32) -> i32,
 ) -> Run {
     let mut winds = Winds::new(axis, sign * RANGES[0].1);
     let outside = rng.pick(&[10, 1_000_000]);
     let list = (0..MANY).map(|i| {
-        let (low, high) = winds.reach();
+        let frames = up_to(rng, most);
+        let (low, high) = winds.reach(frames);
         let least = if sign == 1 { low } else { -high };
         let held = sign * choose(rng, i, least).max(least);
         let mut s = random_sample(rng);
@@ -319,7 +411,7 @@ fn chosen(
         if rng.one_in(outside) {
             s.height = rng.pick(&OUTSIDE);
         }
-        winds.hold(rng, held, s)
+        winds.hold(rng, held, frames, s)
     });
     let list: Vec<_> = list.collect();
     Run::of(both, name, &with_refused(rng, list))
@@ -336,10 +428,10 @@ fn no_alert_waveforms(rng: &mut Rng) -> Vec<i32> {
     shears
 }
 
-/// From a fresh start no shear above 8,000, however low some are: red never comes on. Turned: amber never does.
-#[test]
-fn shears_up_to_8000_light_no_lamp() {
-    let (mut rng, both) = (Rng::new(403), Both::new());
+/// From a fresh start no shear above 8,000, however low some are, each over up to `most` frames: red never comes on. Turned: amber
+/// never does. Gives back at how many samples the other lamp was lit, and the least shear.
+fn up_to_8000(both: &Both, seed: u64, most: u16) -> ([u64; 2], i32) {
+    let mut rng = Rng::new(seed);
     let (mut answers, mut other, mut lowest) = (0u64, [0u64; 2], 0);
     for (axis, (way, (sign, alert))) in AXES
         .into_iter()
@@ -355,21 +447,36 @@ fn shears_up_to_8000_light_no_lamp() {
                 .iter()
                 .fold(lowest, |low, held| low.min(sign * held));
         };
+        let how = (axis, sign, most);
         for (name, below) in BELOW.into_iter().cycle().take(3 * BELOW.len()) {
-            try_one(name, chosen(&both, &mut rng, (axis, sign), name, below));
+            try_one(name, chosen(both, &mut rng, how, name, below));
         }
         let waves = no_alert_waveforms(&mut rng);
-        let run = chosen(&both, &mut rng, (axis, sign), "rows", |_, i, _| {
-            waves[i as usize]
-        });
+        let run = chosen(both, &mut rng, how, "rows", |_, i, _| waves[i as usize]);
         assert!(run.alerts.iter().all(|&lit| lit == 0));
         try_one("rows", run);
     }
     println!(
         "compared {answers} answers to shears up to 8000, the least {lowest}; the other lamp was lit at {other:?} of them"
     );
-    assert!(other.iter().all(|&n| n > 10_000) && lowest < -41_900_000);
     assert_eq!(answers, 6 * 19 * MANY as u64);
+    (other, lowest)
+}
+
+#[test]
+fn shears_up_to_8000_light_no_lamp() {
+    let both = Both::new();
+    let (other, lowest) = up_to_8000(&both, 403, 1);
+    assert!(other.iter().all(|&n| n > 10_000) && lowest < -41_900_000);
+    both.done();
+}
+
+/// 02, A6: however many frames each shear stands for.
+#[test]
+fn shears_up_to_8000_light_no_lamp_over_frames() {
+    let both = Both::new();
+    let (other, lowest) = up_to_8000(&both, 409, MOST_FRAMES);
+    assert!(other.iter().all(|&n| n > 10_000) && lowest < -2_000_000);
     both.done();
 }
 
@@ -386,7 +493,7 @@ fn shears_within_8000_light_neither() {
     for axis in AXES {
         for (sign, _) in WAYS {
             for (name, choose) in within {
-                let run = chosen(&both, &mut rng, (axis, sign), name, choose);
+                let run = chosen(&both, &mut rng, (axis, sign, 1), name, choose);
                 assert!(run.shears.iter().all(|held| held.abs() <= 8_000), "{name}");
                 assert!(run.alerts.iter().all(|&lit| lit == 0), "{name}");
                 answers += run.alerts.len() as u64;
@@ -398,8 +505,9 @@ fn shears_within_8000_light_neither() {
 }
 
 /// Two lists with equal heights and modes and any other fields, refused samples among them: the shears of the second are each at
-/// least those of the first. The first stays near the rows' values for a while, either way, with gusts beyond the cut.
-fn dominated(rng: &mut Rng) -> [Vec<Sample>; 2] {
+/// least those of the first, over the same frames, up to `most`. The first stays near the rows' values for a while, either way, with
+/// gusts beyond the cut.
+fn dominated(rng: &mut Rng, most: u16) -> [Vec<Sample>; 2] {
     let rows: Vec<_> = alert_rows().collect();
     let mut winds = [(); 2].map(|()| Winds::new(rng.pick(&AXES), 0));
     let (mut level, mut height, mut mode) = (0, 400, 1);
@@ -418,8 +526,9 @@ fn dominated(rng: &mut Rng) -> [Vec<Sample>; 2] {
         if rng.one_in(50) {
             mode = 1 - mode;
         }
+        let frames = up_to(rng, most);
         let [(least, greatest), (least_higher, greatest_higher)] =
-            [&winds[0], &winds[1]].map(Winds::reach);
+            [&winds[0], &winds[1]].map(|winds| winds.reach(frames));
         let mut shears = [0; 2];
         if i > 0 {
             let gust = rng.pick(&[2 * CUT, GUST, 2_100_000]);
@@ -442,23 +551,31 @@ fn dominated(rng: &mut Rng) -> [Vec<Sample>; 2] {
                 mode,
                 ..random_sample(rng)
             };
-            list.push(winds.hold(rng, held, s));
+            list.push(winds.hold(rng, held, frames, s));
         }
     }
     lists.map(|list| with_refused(rng, list))
 }
 
+/// How often a pair had red's condition in the lower run, with gusts in the windows beyond the cut, in the higher one alone, and the
+/// red lamp lit in the lower one alone.
+struct Kept {
+    red: u64,
+    beyond: u64,
+    only_higher: u64,
+    out_of_order: u64,
+}
+
 /// Of two runs with equal heights and modes, one with each shear at least the other's: the red condition holds in it wherever it
 /// holds in the other, so that its red lamp is lit there, and wherever the other's comes on. The amber condition goes the other
-/// way.
-#[test]
-fn higher_shears_keep_the_red_condition() {
-    let (mut rng, both) = (Rng::new(405), Both::new());
+/// way. Gives back how often each was so.
+fn kept_in_order(both: &Both, seed: u64, most: u16) -> Kept {
+    let mut rng = Rng::new(seed);
     let mut places = 0u64;
     let [mut red, mut on, mut amber, mut only_higher, mut beyond, mut out_of_order] = [0u64; 6];
     for k in 0..600 {
-        let lists = dominated(&mut rng);
-        let [lower, higher] = lists.map(|list| Run::of(&both, &format!("pair {k}"), &list));
+        let lists = dominated(&mut rng, most);
+        let [lower, higher] = lists.map(|list| Run::of(both, &format!("pair {k}"), &list));
         assert_eq!(lower.heights, higher.heights);
         assert_eq!(lower.modes, higher.modes);
         for at in 0..lower.alerts.len() {
@@ -470,8 +587,8 @@ fn higher_shears_keep_the_red_condition() {
             assert!(!red_lower || red_higher && lit[1], "pair {k}: {at}");
             assert!(!comes_on || lit[1], "pair {k}: {at}");
             assert!(!amber_higher || amber_lower, "pair {k}: {at}");
-            let windows = &higher.shears[(at + 1).saturating_sub(100)..=at];
-            let gusts = windows.iter().any(|held| held.abs() > CUT);
+            let mut windows = higher.entries(at).iter().rev().take(100);
+            let gusts = windows.any(|held| held.abs() > CUT);
             places += 1;
             red += u64::from(red_lower);
             on += u64::from(comes_on);
@@ -486,8 +603,31 @@ fn higher_shears_keep_the_red_condition() {
          and only in the higher at {only_higher}; red comes on in the lower at {on}, amber's condition in the higher at {amber}; \
          at {out_of_order} only the lower's red lamp is lit"
     );
-    assert!(places > 250_000 && red > 30_000 && beyond > 15_000 && red - beyond > 15_000);
-    assert!(only_higher > 1_500 && on > 500 && amber > 5_000 && out_of_order > 100);
+    assert!(places > 250_000 && on > 500 && amber > 5_000);
+    Kept {
+        red,
+        beyond,
+        only_higher,
+        out_of_order,
+    }
+}
+
+#[test]
+fn higher_shears_keep_the_red_condition() {
+    let both = Both::new();
+    let kept = kept_in_order(&both, 405, 1);
+    assert!(kept.beyond > 15_000 && kept.red - kept.beyond > 15_000);
+    assert!(kept.only_higher > 1_500 && kept.out_of_order > 100);
+    both.done();
+}
+
+/// 02, A6: with equal frames.
+#[test]
+fn higher_shears_keep_the_red_condition_over_frames() {
+    let both = Both::new();
+    let kept = kept_in_order(&both, 410, MOST_FRAMES);
+    assert!(kept.beyond > 5_000 && kept.red - kept.beyond > 5_000);
+    assert!(kept.only_higher > 1_000);
     both.done();
 }
 
@@ -495,7 +635,13 @@ fn higher_shears_keep_the_red_condition() {
 fn calm_run(both: &Both, shears: &[i32], last_height: i32) -> Run {
     let mut list = vec![CALM; shears.len()];
     list[shears.len() - 1].height = last_height;
-    let list = holding(&mut Rng::new(406), Axis::Vertical, &list, shears);
+    let list = holding(
+        &mut Rng::new(406),
+        Axis::Vertical,
+        &list,
+        shears,
+        &vec![1; shears.len()],
+    );
     let run = Run::of(both, "calm", &list);
     assert_eq!(run.shears, shears);
     run
@@ -577,7 +723,13 @@ fn not_promised_beyond_the_cut() {
             assert!(average.at_least(Average::held(row.value)));
             assert!(shears[at].abs() > CUT);
             let calm = vec![CALM; shears.len()];
-            let list = holding(&mut Rng::new(407), Axis::Both, &calm, &shears);
+            let list = holding(
+                &mut Rng::new(407),
+                Axis::Both,
+                &calm,
+                &shears,
+                &vec![1; shears.len()],
+            );
             let run = Run::of(&both, "gust", &list);
             assert_eq!(run.shears, shears);
             assert!(!reaches(&run.shears, row, sign));

@@ -1,15 +1,71 @@
-//! A whole run of each of three files of 2,600 records: the library, the plain program and the reference by turns.
+//! A whole run of each of three files of 2,600 records: the library, the plain program and the reference by turns. Then 2,500 records
+//! in version 1, in version 2 with one frame each, and in version 2 with 1 to 20 frames each, by turns.
 //! With an argument, a shared object that holds an earlier library, today's, that one and the plain program by turns as well.
 
 use std::hint::black_box;
 use windshear::Outcome;
-use windshear_tests::bench::{medians, report, three_files, Earlier};
+use windshear_tests::bench::{medians, report, three_files, three_lists, Earlier};
+use windshear_tests::files::samples_in;
+use windshear_tests::forged::some_frames;
+use windshear_tests::gen::{numbered, Rng};
+use windshear_tests::reference::{Sample, VERSIONS};
 use windshear_tests::{plain, reference};
 
 fn main() {
     let earlier = std::env::args().nth(1).map(|path| Earlier::open(&path));
     for (name, file) in three_files() {
         measure(name, &file, earlier.as_ref());
+    }
+    for (name, list) in three_lists(2_500) {
+        measure_versions(name, &list);
+    }
+}
+
+/// A run of a file of 2,500 records by the library.
+fn by_library(file: &[u8]) -> impl FnMut() + '_ {
+    let mut answers = vec![0; 25_000];
+    move || {
+        black_box(windshear::run(black_box(file), &mut answers));
+    }
+}
+
+/// The same by the plain program.
+fn by_plain(file: &[u8]) -> impl FnMut() + '_ {
+    let mut answers = vec![0; 25_000];
+    move || {
+        black_box(plain::run(black_box(file), &mut answers)).unwrap();
+    }
+}
+
+/// 02, A6: what a frame number costs, and what frames do.
+fn measure_versions(name: &str, list: &[Sample]) {
+    let mut rng = Rng::new(63);
+    let dropped = numbered(list, 0, |_| some_frames(&mut rng));
+    let [one, two] = &VERSIONS;
+    let files = [(one, list), (two, list), (two, &dropped[..])];
+    let files = files.map(|(version, list)| samples_in(version, list));
+    for file in &files {
+        let (mut answers, mut want) = (vec![0; 25_000], vec![1; 25_000]);
+        assert_eq!(windshear::run(file, &mut answers), Outcome::default());
+        assert!(plain::run(file, &mut want).is_ok() && want == answers);
+    }
+    let [mut l1, mut l2, mut l3] = files.each_ref().map(|file| by_library(file));
+    let [mut p1, mut p2, mut p3] = files.each_ref().map(|file| by_plain(file));
+    let times = medians(401, [&mut l1, &mut l2, &mut l3, &mut p1, &mut p2, &mut p3]);
+    let kinds = [
+        "version 1",
+        "version 2, one frame each",
+        "version 2, 1 to 20 frames each",
+    ];
+    for (i, kind) in kinds.iter().enumerate() {
+        let (library, plain) = (times[i], times[3 + i]);
+        println!(
+            "2,500 records, {name}, {kind}: library {library:.3} ms, {:.1} ns a record, plain {plain:.3} ms; \
+             library / version 1 {:.2}, library / plain {:.2}",
+            library * 1e6 / 2_500.0,
+            library / times[0],
+            library / plain
+        );
     }
 }
 
