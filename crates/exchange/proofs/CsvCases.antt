@@ -3,15 +3,15 @@ use mathlib.Core.List.{List, [], _∷_, _++_, map}
 use mathlib.Core.Path.{_≡_, refl}
 use Prim.Native.Nat.{ℕ}
 use Prim.Native.String.{String}
-use lib.IntN.{ℤ, pos, negℤ}
+use lib.IntN.{pos, negℤ}
 use lib.ListN.{replicate}
-use Rattle.format.specs.Header.{mostRecords}
+use Rattle.header.specs.Header.{mostRecords}
 use Rattle.text.specs.Number.{allDigits, valueFrom, wholeSize, twoDecimals, knotsSize, signLength, withSign, wholeOf, knotsOf}
 use Rattle.text.specs.Text.{ascii}
-use Rattle.unit.specs.Choice.{within}
-use Rattle.unit.specs.Rules.{ranges, inside, inRange, firstBad, refusal}
-use Rattle.unit.specs.declared.Sample.{Sample}
-use Rattle.exchange.specs.Csv.{names, speeds, longer, split, quoted, unquoted, endsInCr, fieldsOf, same, named, numberIn, andThen, numbersOf, sampleFrom, numbersIn, rowThen, lastOf, rowsOf}
+use Rattle.rules.specs.Choice.{within}
+use Rattle.rules.specs.Rules.{ranges, inside, inRange, firstBad, refusal}
+use Rattle.rules.specs.declared.Sample.{Sample}
+use Rattle.csv.specs.Csv.{names, speeds, longer, split, quoted, unquoted, endsInCr, fieldsOf, same, named, numberIn, andThen, numbersOf, sampleFrom, numbersIn, rowThen, lastOf, rowsOf}
 use Rattle.exchange.specs.Import.{Tested, refused, accepted, firstRefused, testedSamples, testedRows, testedLines, testedText}
 
 abbrev crlf : List ℕ

@@ -10,25 +10,25 @@ use lib.IntN.{ℤ}
 use lib.ListN.{length, take, drop, length-map, drop-of-length-le, take-append-drop}
 use lib.Seq.{drop-drop}
 use Rattle.format.specs.Claims.{Bytes, WritesReadAt}
-use Rattle.format.specs.Header.{headerSize, mostRecords, versionIn, countIn, headerBytes}
-use Rattle.format.specs.Reading.{recordStart, bytesAt, foundRecord}
-use Rattle.format.specs.Record.{recordSize, parseOf, recordBytes}
+use Rattle.header.specs.Header.{headerSize, mostRecords, versionIn, countIn, headerBytes, recordStart, bytesAt, recordSize}
+use Rattle.format.specs.Reading.{foundRecord}
+use Rattle.format.specs.Record.{parseOf, recordBytes}
 use Rattle.format.specs.Refusal.{sampleOf, recordRefusal}
 use Rattle.format.specs.declared.Record.{Record}
-use Rattle.format.specs.declared.header.Header.the-variants.{Records}
+use Rattle.header.specs.declared.Header.the-variants.{Records}
 use Rattle.format.specs.declared.reading.Reading.{Reading}
-use Rattle.format.proofs.Headers.{header-counted, written-read-header}
+use Rattle.header.proofs.Headers.{header-counted, written-read-header}
 use Rattle.format.proofs.ReadingClaims.{finds-readable, writes-read-at}
 use Rattle.runfile.specs.Run.{recordsOf, samplesIn}
 use Rattle.runfile.proofs.RunLaws.{records-length, left, left-all, left-more, left-none}
 use Rattle.text.specs.Text.{absent}
 use Rattle.text.proofs.TextLaws.{absent-append}
-use Rattle.unit.proofs.Choices.{both-true}
-use Rattle.unit.specs.Choice.{AllOf, every}
-use Rattle.unit.specs.Rules.{refusal}
-use Rattle.unit.specs.declared.Sample.{Sample}
+use Rattle.rules.proofs.Choices.{both-true}
+use Rattle.rules.specs.Choice.{AllOf, every}
+use Rattle.rules.specs.Rules.{refusal}
+use Rattle.rules.specs.declared.Sample.{Sample}
 use Rattle.exchange.specs.Claims.{NoneQuoted, PlainFields, PlainText, ExportsImported, ImportsExported, PlainExported, NearestSpeeds, SameBytes}
-use Rattle.exchange.specs.Csv.{Numbers, Rows, names, speeds, comma, quote, lf, split, quoted, endsInCr, fieldsOf, same, named, numbersOf, sampleFrom, numbersIn, rowThen, lastOf, rowsOf}
+use Rattle.csv.specs.Csv.{Numbers, Rows, names, speeds, comma, quote, lf, split, quoted, endsInCr, fieldsOf, same, named, numbersOf, sampleFrom, numbersIn, rowThen, lastOf, rowsOf}
 use Rattle.exchange.specs.Export.{line, sampleLine, sampleLines, csvText, exportText, exportTested, exportNeeds}
 use Rattle.exchange.specs.Import.{accepted, refused, testedRows, testedLines, testedText, nearestRecord, recordsFile, runFile, importedFile}
 use Rattle.exchange.proofs.ExportLaws.{needs-tested}

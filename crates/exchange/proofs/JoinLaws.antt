@@ -10,10 +10,10 @@ use lib.ListN.{length, take, getD, length-append}
 use lib.Seq.{split-at, drop-length, take-at, getD-at}
 use Rattle.text.specs.Text.{absent}
 use Rattle.text.proofs.TextLaws.{absent-append}
-use Rattle.unit.proofs.Choices.{both-true}
-use Rattle.unit.specs.Choice.{AllOf}
+use Rattle.rules.proofs.Choices.{both-true}
+use Rattle.rules.specs.Choice.{AllOf}
 use Rattle.exchange.specs.Claims.{NoneQuoted}
-use Rattle.exchange.specs.Csv.{comma, quote, cr, lf, split, longer, quoted, unquoted, endsInCr, fieldsOf}
+use Rattle.csv.specs.Csv.{comma, quote, cr, lf, split, longer, quoted, unquoted, endsInCr, fieldsOf}
 use Rattle.exchange.specs.Export.{line}
 
 -- what holds of each element, by what else does

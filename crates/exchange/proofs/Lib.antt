@@ -1,6 +1,4 @@
 pub mod VersionLaws
-pub mod SplitLaws
-pub mod FillLaws
 pub mod JoinLaws
 pub mod RowLaws
 pub mod ImportClaims

@@ -8,11 +8,10 @@ use Rattle.float.specs.Claims.{NearestIs}
 use Rattle.float.specs.Float.{nearestFloat, nearestLimit}
 use Rattle.float.proofs.Closest.{nearest-is}
 use Rattle.float.proofs.NearestLaws.{nearest-of-zero}
-use Rattle.format.specs.declared.Record.{Record}
 use Rattle.runfile.specs.Run.{recordsOf}
-use Rattle.unit.specs.Choice.{AllOf}
-use Rattle.unit.specs.Rules.{refusal}
-use Rattle.unit.specs.declared.Sample.{Sample}
+use Rattle.rules.specs.Choice.{AllOf}
+use Rattle.rules.specs.Rules.{refusal}
+use Rattle.rules.specs.declared.Sample.{Sample}
 use Rattle.exchange.specs.Claims.{Written, WrittenSpeeds, AllWritten, ImportNearest, NearestSpeeds, NearImported}
 use Rattle.exchange.specs.Import.{accepted, testedText, nearestRecord, importedFile, fileOf}
 use Rattle.exchange.proofs.ExportClaims.{exports-imported, imports-exported}

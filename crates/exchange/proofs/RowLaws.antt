@@ -14,10 +14,10 @@ use Rattle.text.specs.declared.read.Number.the-variants.{Is, Malformed}
 use Rattle.text.proofs.AgainLaws.{whole-again, knots-again, plain-signed, plain-knots}
 use Rattle.text.proofs.BackLaws.{whole-back, knots-back}
 use Rattle.text.proofs.TextLaws.{absent-signed, absent-knots}
-use Rattle.unit.specs.Choice.{AllOf}
-use Rattle.unit.specs.declared.Sample.{Sample}
+use Rattle.rules.specs.Choice.{AllOf}
+use Rattle.rules.specs.declared.Sample.{Sample}
 use Rattle.exchange.specs.Claims.{fewest, PlainFields}
-use Rattle.exchange.specs.Csv.{Numbers, malformed, are, speeds, comma, quote, lf, numberIn, andThen, numbersOf, sampleFrom, numbersIn}
+use Rattle.csv.specs.Csv.{Numbers, malformed, are, speeds, comma, quote, lf, numberIn, andThen, numbersOf, sampleFrom, numbersIn}
 use Rattle.exchange.specs.Export.{numberText, fieldTexts}
 use Rattle.exchange.proofs.JoinLaws.{Some, Field}
 

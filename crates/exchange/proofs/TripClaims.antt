@@ -7,13 +7,12 @@ use native.Mathlib.Omega.{arith}
 use borrow.Author.Tests.{eqb-true, eqb-false, eq-eqb}
 use lib.Dec.{eqb}
 use lib.ListN.{length}
-use Rattle.format.specs.Header.{headerSize}
-use Rattle.format.specs.Record.{recordSize}
+use Rattle.header.specs.Header.{headerSize, recordSize}
 use Rattle.runfile.specs.Run.{samplesIn, testedOf}
-use Rattle.unit.specs.declared.Sample.{Sample}
+use Rattle.rules.specs.declared.Sample.{Sample}
 use Rattle.exchange.specs.Claims.{SameBytes, Imports, Exports, RoundTrips}
 use Rattle.exchange.specs.Export.{exportText, exportNeeds}
-use Rattle.exchange.specs.Import.{refused, accepted, testedText, importedFile, neededBy, importNeeds, exchangedBy, leftBy}
+use Rattle.exchange.specs.Import.{accepted, testedText, importedFile, neededBy, importNeeds, exchangedBy, leftBy}
 use Rattle.exchange.specs.declared.Exchanged.{Exchanged}
 use Rattle.exchange.specs.declared.Needed.{Needed}
 use Rattle.exchange.proofs.ExportClaims.{exports-imported, imports-exported, unrefused-file, same-bytes, samples-counted}

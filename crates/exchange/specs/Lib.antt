@@ -1,5 +1,3 @@
-pub mod Csv
-pub mod Find
 pub mod Import
 pub mod Held
 pub mod Export

@@ -1,8 +1,6 @@
 // Runs as CSV text, imported and exported (02, A3).
-mod csv;
 pub mod export;
 pub mod import;
-mod row;
 
 // What an import or an export is answered: 0 and 0, or the number that refuses it and its place: for 11 to 20 the first bad line's, the
 // header line not counted, or the first bad record's, from 0; else 0.

@@ -1,9 +1,5 @@
-pub mod Digits
-pub mod Signed16
 pub mod Patterns
 pub mod RoundTrip
-pub mod Versions
-pub mod Headers
 pub mod Starred
 pub mod RecordLaws
 pub mod RecordClaims

@@ -1,5 +1,4 @@
 pub mod Record
-pub mod Header
 pub mod Refusal
 pub mod Reading
 pub mod Claims

@@ -1,10 +1,7 @@
 // The run file's format: the header and the records read and written (01, "The run file").
-pub mod header;
-pub mod lent;
 pub mod raw;
 pub mod reading;
 pub mod records;
-pub mod words;
 
 // A record's fields as the file has them: the three speeds in knots as they stand there, bit for bit; in version 1 the frame number is
 // read as 0, and not written.

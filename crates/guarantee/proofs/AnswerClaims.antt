@@ -11,12 +11,12 @@ use lib.ListN.{length, length-append}
 use Rattle.guarantee.specs.Answers.{GuaranteedAt, InOrderAt, LoneGuaranteed, AcceptedRun, RecordAt, alertAt, signed32, shearAt, RunsGuaranteed, AllGuaranteed}
 use Rattle.guarantee.specs.Guarantee.{AtLeast, RedAtRow, RedNever, AmberAtRow, AmberNever, RedInOrder}
 use Rattle.guarantee.proofs.GuaranteeClaims.{lit-now, stays-dark, red-at-row, red-never, amber-at-row, amber-never, red-in-order}
-use Rattle.format.specs.Header.{versionIn}
+use Rattle.header.specs.Header.{versionIn}
 use Rattle.format.specs.Reading.{takenAs}
-use Rattle.format.specs.Record.{le32, bytes32}
+use Rattle.header.specs.Words.{le32, bytes32}
 use Rattle.format.specs.Refusal.{sampleOf}
 use Rattle.format.specs.declared.Record.{Record}
-use Rattle.format.proofs.Digits.{four-back}
+use Rattle.header.proofs.Digits.{four-back}
 use Rattle.host.specs.Demand3.{Call, Meets, acceptedOf, alertShown}
 use Rattle.host.proofs.Demand3.{demand-3}
 use Rattle.runfile.specs.Claims.{newestFirst, sampleAt, samplesBefore, tenAt, alertIn, alertBefore, RunsByRules}
@@ -26,13 +26,13 @@ use Rattle.runfile.specs.Run.{unsigned32, answerBytes}
 use Rattle.runfile.proofs.RunClaims.{all-accepted, runs-by-rules}
 use Rattle.runfile.proofs.RunLaws.{run-tested}
 use Rattle.unit.proofs.Claims.{AllAccepted}
-use Rattle.unit.proofs.HeldShear.{shear-le}
-use Rattle.unit.proofs.RangeLaws.{in-range, none-after, frame-at-least}
+use Rattle.rules.proofs.HeldShear.{shear-le}
+use Rattle.rules.proofs.RangeLaws.{in-range, none-after, frame-at-least}
 use Rattle.unit.specs.Claims.{accepted, shows}
-use Rattle.unit.specs.Rules.{frames, refusalAfter, change, held, redCondition, litFor, redFor, redLit, amberLit}
+use Rattle.rules.specs.Rules.{frames, refusalAfter, change, held, redCondition, litFor, redFor, redLit, amberLit}
 use Rattle.unit.specs.Steps.{refusedOf}
 use Rattle.unit.specs.declared.Answer.{Answer}
-use Rattle.unit.specs.declared.Sample.{Sample}
+use Rattle.rules.specs.declared.Sample.{Sample}
 
 -- ════ The alert that the rules show, by the lamps ════
 

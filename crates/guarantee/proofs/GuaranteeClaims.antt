@@ -11,12 +11,12 @@ use lib.ListN.{replicate}
 use Rattle.guarantee.specs.Guarantee.{TestRow, quietRows, alertRows, quietLimit, highest, RowFacts, turned, ReachesRow, NoneAbove, RedAtRow, RedNever, AmberAtRow, AmberNever, AtLeast, RedInOrder, Guarantee}
 use Rattle.guarantee.proofs.WaveLaws.{entered, map-times, none-later, Ordered, ordered-times, covers, above, meets, row-meets, none-meets, order-meets, turned-meets}
 use Rattle.rounding.specs.Cut.{cut}
-use Rattle.unit.proofs.Choices.{both-true}
+use Rattle.rules.proofs.Choices.{both-true}
 use Rattle.unit.proofs.Follow.{not-zero}
-use Rattle.unit.proofs.RangeLaws.{every-member}
-use Rattle.unit.specs.Choice.{anyOf, every}
-use Rattle.unit.specs.Rules.{frames, held, entryLimit, entry, entries, windows, metUp, metDown, inside, band, inBand, condition, redCondition, amberCondition, litFor, redFor, redLit, amberFor, amberLit}
-use Rattle.unit.specs.declared.Sample.{Sample}
+use Rattle.rules.proofs.RangeLaws.{every-member}
+use Rattle.rules.specs.Choice.{anyOf, every}
+use Rattle.rules.specs.Rules.{frames, held, entryLimit, entry, entries, windows, metUp, metDown, inside, band, inBand, condition, redCondition, amberCondition, litFor, redFor, redLit, amberFor, amberLit}
+use Rattle.rules.specs.declared.Sample.{Sample}
 
 -- ════ The table ════
 

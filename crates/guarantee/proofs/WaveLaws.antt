@@ -18,9 +18,9 @@ use Rattle.rounding.specs.Fraction.{sumℤ}
 use Rattle.rounding.proofs.CutLaws.{cut-between, cut-low, cut-high, cut-le}
 use Rattle.rounding.proofs.Difference.{any, nat, negD, +D, *D, eqD, leD, ltD, ofLe, ofSize}
 use Rattle.rounding.proofs.Order.{le-leZ, lt-leZ, ltZ-le, ltZ-false}
-use Rattle.unit.specs.Choice.{anyOf, every}
-use Rattle.unit.specs.Rules.{entryLimit, Window, lastOf, windowSum, limit, metUp, metDown}
-use Rattle.unit.proofs.Choices.{cond-has, both-true, ≤ℤ-trans}
+use Rattle.rules.specs.Choice.{anyOf, every}
+use Rattle.rules.specs.Rules.{entryLimit, Window, lastOf, windowSum, limit, metUp, metDown}
+use Rattle.rules.proofs.Choices.{cond-has, both-true, ≤ℤ-trans}
 
 -- ════ The cut ════
 

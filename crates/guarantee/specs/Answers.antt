@@ -9,14 +9,14 @@ use lib.Dec.{ltb}
 use lib.IntN.{ℤ, pos, _-ℤ_}
 use lib.ListN.{length}
 use Rattle.guarantee.specs.Guarantee.{TestRow, alertRows, quietLimit, turned, ReachesRow, NoneAbove, AtLeast}
-use Rattle.format.specs.Record.{le32}
+use Rattle.header.specs.Words.{le32}
 use Rattle.format.specs.declared.Record.{Record}
 use Rattle.host.specs.Demand3.{Call, Meets, acceptedOf, alertShown}
 use Rattle.runfile.specs.Claims.{sampleAt, samplesBefore, tenAt, alertIn, alertBefore}
 use Rattle.runfile.specs.Run.{recordsOf, RunPromise}
 use Rattle.runfile.specs.declared.run.Outcome.{Outcome}
-use Rattle.unit.specs.Rules.{refusalAfter, held, entries, inBand, redCondition}
-use Rattle.unit.specs.declared.Sample.{Sample}
+use Rattle.rules.specs.Rules.{refusalAfter, held, entries, inBand, redCondition}
+use Rattle.rules.specs.declared.Sample.{Sample}
 
 -- what A4 promises of the alert in the answer to an accepted sample, with the accepted samples before it, the newest first
 pub record GuaranteedAt (s : Sample) (before : List Sample) (alert : ℕ) : Type 0 where

@@ -11,10 +11,10 @@ use lib.IntN.{ℤ, pos, negℤ}
 use lib.ListN.{take}
 use lib.Signed.{_≤ℤ_}
 use Rattle.rounding.specs.Fraction.{Fraction, _over_, _≤F_, sumℤ}
-use Rattle.unit.specs.Choice.{AllOf, anyOf, every}
-use Rattle.unit.specs.Figures.{Figure, exposure, unstarred}
-use Rattle.unit.specs.Rules.{frames, held, entryLimit, entries, lastOf, inBand, redCondition, redLit, amberLit}
-use Rattle.unit.specs.declared.Sample.{Sample}
+use Rattle.rules.specs.Choice.{AllOf, anyOf, every}
+use Rattle.cases.specs.Figures.{Figure, exposure, unstarred}
+use Rattle.rules.specs.Rules.{frames, held, entryLimit, entries, lastOf, inBand, redCondition, redLit, amberLit}
+use Rattle.rules.specs.declared.Sample.{Sample}
 
 -- ════ The nine rows of 000, appendix 1, 4.d.(7) and (8) ════
 

@@ -6,7 +6,7 @@ use Rattle.host.specs.Anew.{AllSummedAnew}
 use Rattle.host.specs.Demand3.{Call, acceptedOf}
 use Rattle.runfile.proofs.RunClaims.{runs-summed-anew}
 use Rattle.unit.proofs.Claims.{AllAccepted, accepted-all, list-answers}
-use Rattle.unit.specs.Rules.{refusalAfter}
+use Rattle.rules.specs.Rules.{refusalAfter}
 use Rattle.host.proofs.Demand3.{demand-3}
 
 all-accepted : (l : List Call) → AllAccepted (acceptedOf l)

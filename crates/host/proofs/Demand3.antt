@@ -9,10 +9,10 @@ use Rattle.runfile.proofs.RunClaims.{demand-3-run}
 use Rattle.unit.proofs.Claims.{states-pass, answers-by-rules, demand-3-lone}
 use Rattle.unit.proofs.Promises.{plain-says}
 use Rattle.unit.specs.Claims.{stateAfter, answerTo, lastAlert, StatesPass, AnswersByRules, Demand3Lone}
-use Rattle.unit.specs.Rules.{refusalAfter}
+use Rattle.rules.specs.Rules.{refusalAfter}
 use Rattle.unit.specs.Steps.{offerOf, PlainPromise}
 use Rattle.unit.specs.declared.Answer.{Answer}
-use Rattle.unit.specs.declared.Sample.{Sample}
+use Rattle.rules.specs.declared.Sample.{Sample}
 use Rattle.unit.specs.declared.State.{State}
 
 abbrev samples : List Call → List Sample

@@ -17,8 +17,8 @@ use Rattle.unit.proofs.Answer as Answer′
 use Rattle.unit.proofs.Answer.Laws as AnswerLaws
 use Rattle.unit.proofs.Offered as Offered′
 use Rattle.unit.proofs.Offered.Laws as OfferedLaws
-use Rattle.unit.proofs.Sample as Sample′
-use Rattle.unit.proofs.Sample.Laws as SampleLaws
+use Rattle.rules.proofs.Sample as Sample′
+use Rattle.rules.proofs.Sample.Laws as SampleLaws
 use Rattle.unit.proofs.State as State′
 use Rattle.unit.proofs.State.Laws as StateLaws
 

@@ -6,7 +6,7 @@ use mathlib.Core.Path.{_≡_}
 use Rattle.host.specs.Demand3.{Call, Meets, acceptedOf}
 use Rattle.runfile.specs.Claims.{RunsSummedAnew}
 use Rattle.unit.specs.Claims.{listAnswer}
-use Rattle.unit.specs.Rules.{refusalAfter}
+use Rattle.rules.specs.Rules.{refusalAfter}
 
 pub record AllSummedAnew : Type 0 where
   -- samples offered alone, in the plain form or lent, in any mixture, with refused ones among them

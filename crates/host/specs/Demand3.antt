@@ -19,10 +19,10 @@ use lib.Dec.{eqb}
 use Rattle.host.specs.Lent.{LentPromise}
 use Rattle.runfile.specs.Claims.{Demand3Run}
 use Rattle.unit.specs.Claims.{accepted, shows, Demand3At}
-use Rattle.unit.specs.Rules.{refusalAfter, windows}
+use Rattle.rules.specs.Rules.{refusalAfter, windows}
 use Rattle.unit.specs.Steps.{freshState, passes, refusedOf, PlainPromise}
 use Rattle.unit.specs.declared.Answer.{Answer}
-use Rattle.unit.specs.declared.Sample.{Sample}
+use Rattle.rules.specs.declared.Sample.{Sample}
 use Rattle.unit.specs.declared.State.{State}
 
 -- The quotes below are from 01, "The list in demand 3", where the trust is not named.

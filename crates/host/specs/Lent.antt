@@ -3,7 +3,7 @@
 use mathlib.Core.Path.{_≡_}
 use Rattle.unit.specs.Steps.{offerOf}
 use Rattle.unit.specs.declared.Answer.{Answer}
-use Rattle.unit.specs.declared.Sample.{Sample}
+use Rattle.rules.specs.declared.Sample.{Sample}
 use Rattle.unit.specs.declared.State.{State}
 
 unfoldable pub LentPromise : State → Sample → Answer → State → Type 0

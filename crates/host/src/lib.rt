@@ -9,7 +9,7 @@ ghost use Rattle.catalog.specs.Listing.{ListingPromise};
 ghost use Rattle.exchange.specs.Export.{exportNeeds, ExportPromise};
 ghost use Rattle.exchange.specs.Import.{importNeeds, ImportPromise};
 ghost use Rattle.float.specs.Float.{convertedOf};
-ghost use Rattle.format.specs.Header.{writeHeaderRefusal, writtenHeader};
+ghost use Rattle.header.specs.Header.{writeHeaderRefusal, writtenHeader};
 ghost use Rattle.format.specs.Reading.{readingOf};
 ghost use Rattle.format.specs.Refusal.{writeRecordRefusal, writtenRecord};
 ghost use Rattle.runfile.specs.Run.{RunPromise, fileTestOf};
@@ -19,11 +19,11 @@ use exchange::Needed;
 use float::Converted;
 use format::Record;
 use format::reading::Reading;
+use rules::Sample;
 use runfile::run::FileTest;
 use runfile::run::Outcome;
 use unit::Answer;
 use unit::Offered;
-use unit::Sample;
 use unit::State;
 
 // The hundredths of a finite float, cut at a million either way: finite is 1; exact is 1 where 100 times its exact value is a whole number; cut is 1
@@ -88,7 +88,7 @@ pub extern "C" fn windshear_hundredths(bits: u32) -> ConvertedFloat
 pub extern "C" fn windshear_write_header(version: u32, count: u32, buf: &mut [u8]) -> u16
     ensures { λ r. ⌜ (r ≡ writeHeaderRefusal version count (length (now (buf .entry)))) × (now (buf .exit) ≡ writtenHeader version count (now (buf .entry))) ⌝ }
 {
-    format::header::write(version, count, buf)
+    header::write(version, count, buf)
 }
 
 // 24 record bytes, or 26 in version 2; or 3, 7 or 11 to 20, and the buffer untouched.

@@ -1,11 +1,10 @@
 // Lists one run file from standard input (01, "The listing"). At most 65,009 bytes are read (02, A6), one more than the longest run has.
 // Where a run can't be read or its listing can't be written, it says so in one line on standard error: a fault is no verdict on the file.
 ghost use mathlib.Core.Path.{_≡_};
-ghost use lib.ListN.{take};
+ghost use lib.ListN.{length, take};
 ghost use Rattle.io.specs.Counts.{Counts};
-ghost use Rattle.catalog.specs.Listing.{listingOf};
-use format::header;
-use format::raw;
+ghost use Rattle.catalog.specs.Listing.{listingOf, mostRead};
+use header::record;
 use libc::STDERR_FILENO;
 use libc::STDIN_FILENO;
 use libc::STDOUT_FILENO;
@@ -14,7 +13,7 @@ use libc::STDOUT_FILENO;
 const ROOM: usize = 64 * (header::MOST + 2);
 
 // "up to 65,009 bytes" (02, A6): one more than the longest run has, which is of version 2.
-const MOST_READ: usize = header::SIZE + raw::SIZE_2 * header::MOST_2 + 1;
+const MOST_READ: usize = header::SIZE + record::SIZE_2 * header::MOST_2 + 1;
 
 // How many bytes were read, and whether a read failed before the input's end.
 struct Input {
@@ -25,6 +24,7 @@ struct Input {
 // Reads until the buffer is full, the input ends or a read fails. A read that a signal interrupts is tried again. A proved loop has to
 // end, and nothing says that the input does: so the turns are counted down, from a number that no input uses up.
 fn read_input(fd: i32, file: &mut [u8]) -> Input
+    requires { ⌜ length (now file) ≡ mostRead ⌝ }
     ensures { λ r. ⌜ Counts (r .length) (now (file .exit)) ⌝ }
 {
     let mut done: usize = 0;

@@ -6,7 +6,7 @@ use native.Mathlib.Omega.{arith}
 use lib.IntN.{ℤ, pos, natAbs, _-ℤ_, _*ℤ_}
 use Rattle.rounding.proofs.Difference.{nat, -D, *D, eqD}
 use Rattle.rounding.specs.Rounding.{nearest, roundAway}
-use Rattle.unit.specs.Rules.{exactShear}
+use Rattle.rules.specs.Rules.{exactShear}
 use Rattle.panel.specs.Panel.{panel, PanelHolds}
 
 -- the airspeed is a common factor of the gust's fraction

@@ -7,9 +7,9 @@ use lib.IntN.{ℤ, pos, natAbs, _*ℤ_}
 use lib.ListN.{take, drop}
 use lib.Signed.{ltZ}
 use Rattle.rounding.specs.Fraction.{Fraction, _over_, timesF, roundF}
-use Rattle.unit.specs.Choice.{neg}
-use Rattle.unit.specs.Figures.{shear, shearAny, starred}
-use Rattle.unit.specs.Rules.{exactShear}
+use Rattle.rules.specs.Choice.{neg}
+use Rattle.cases.specs.Figures.{shear, shearAny, starred}
+use Rattle.rules.specs.Rules.{exactShear}
 
 -- What the panel shows of one shear.
 pub record Worked : Type 0 where

@@ -14,8 +14,7 @@ use Rattle.rounding.proofs.CutLaws.{cut-small, cut-low, cut-high}
 use Rattle.rounding.proofs.Difference.{nat, negD, leD}
 use Rattle.rounding.proofs.Fits.{size-neg}
 use Rattle.rounding.specs.Cut.{cut}
-use Rattle.text.specs.Number.{allDigits, valueFrom, digitsFrom, wholeSize, twoDecimals, knotsSize, minus, signLength, withSign}
-use Rattle.text.specs.Number.{numberLimit, cutNumber, cutSize}
+use Rattle.text.specs.Number.{allDigits, valueFrom, digitsFrom, wholeSize, twoDecimals, knotsSize, minus, signLength, withSign, numberLimit, cutNumber, cutSize}
 use Rattle.text.specs.declared.read.Number.{Number}
 use Rattle.text.specs.declared.read.Number.the-variants.{Is, Malformed}
 use Rattle.text.specs.declared.read.Size.{Size}

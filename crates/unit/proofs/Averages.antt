@@ -21,11 +21,11 @@ use Rattle.rounding.proofs.CutLaws.{cut-positive, times-cut, rounds-then-cuts}
 use Rattle.rounding.proofs.Difference.{up, down, any, nat, +D, -D, *D, eqD, leD, ltD, ofLe, ofLt, ofSize}
 use Rattle.rounding.proofs.Order.{le-leZ, lt-leZ}
 use Rattle.rounding.proofs.Sums.{sum-error, sum-positive}
-use Rattle.unit.specs.Choice.{anyOf, every}
+use Rattle.rules.specs.Choice.{anyOf, every}
 use Rattle.unit.specs.Claims.{tolerance, tableValue, averageOf, Reaches, Below, PositiveDivisors}
-use Rattle.unit.specs.Rules.{frames, held, heldShear, exact, entryLimit, entry, exactEntry, entries, Window, lastOf, windowSum, average, limit, metUp}
-use Rattle.unit.specs.declared.Sample.{Sample}
-use Rattle.unit.proofs.RangeLaws.{every-member}
+use Rattle.rules.specs.Rules.{frames, held, heldShear, exact, entryLimit, entry, exactEntry, entries, Window, lastOf, windowSum, average, limit, metUp}
+use Rattle.rules.specs.declared.Sample.{Sample}
+use Rattle.rules.proofs.RangeLaws.{every-member}
 
 -- ════ Scaled sums ════
 

@@ -8,30 +8,29 @@ use Prim.Native.Nat.{ℕ, zero, suc, _+_, _≤_, _<_, min}
 use native.Mathlib.Nat.{mul-pos}
 use native.Mathlib.Omega.{arith}
 use borrow.Author.Tests.{eqb-true, eqb-false, eq-eqb, ne-eqb, lt-ltb, ltb-false}
-use lib.Dec.{T, ltb, leb, eqb, lit<, lit≤}
-use lib.IntN.{ℤ, pos, natAbs}
+use lib.Dec.{ltb, leb, eqb, lit<, lit≤}
+use lib.IntN.{ℤ, pos}
 use lib.ListN.{replicate}
-use lib.Signed.{leZ, _≤ℤ_, leZ-yes}
-use Rattle.rounding.specs.Cut.{cut}
+use lib.Signed.{_≤ℤ_, leZ-yes}
 use Rattle.rounding.specs.Fraction.{Fraction, Positive, AllPositive}
-use Rattle.rounding.proofs.CutLaws.{cut-le}
-use Rattle.rounding.proofs.Difference.{any, nat, leD, ofSize}
 use Rattle.rounding.proofs.Fits.{size-ge}
-use Rattle.unit.specs.Choice.{neg, firstOf, within, same, anyOf, every}
+use Rattle.rules.specs.Choice.{neg, firstOf, within, same, anyOf, every}
 use Rattle.unit.specs.Claims.{stateAfter, answerTo, accepted, StatesPass, LeftPasses, shows, AnswersByRules, RefusedIsNothing, StatesHold, listAfter, listAnswer, SummedAnew, Reaches, Below, PositiveDivisors, lastAlert, Demand3Lone}
-use Rattle.unit.specs.Rules.{ranges, inside, refusal, frames, thenFrames, refusalAfter, exactShear, held, exact, entryLimit, entry, entries, Window, windows, inBand, lastOf, windowSum, metUp, condition, redCondition, litFor, redFor, redLit, amberFor, amberLit, voiceFor, guidance, Guidance, off, on, isOn, commandOf, guidanceBy}
-use Rattle.unit.specs.Steps.{freshCore, freshState, readFrom, sumsOf, framesOf, shearOf, entryOf, coreWith, windowsOf, lampsOf, voiceOf, guideOf, pitchOf, shownBy, acceptOf, entryFits, heldFits, countersFit, lastFits, sameSums, ringFits, passes, refusedOf, refusalBy, refusalOf, offerOf, RingValid}
+use Rattle.rules.specs.Rules.{ranges, inside, refusal, frames, thenFrames, refusalAfter, exactShear, exact, entry, entries, Window, windows, inBand, lastOf, windowSum, metUp, condition, redCondition, litFor, redFor, redLit, amberFor, amberLit, voiceFor, guidance, Guidance, off, on, isOn, commandOf, guidanceBy}
+use Rattle.unit.specs.Steps.{freshCore, freshState, framesOf, shearOf, entryOf, coreWith, windowsOf, lampsOf, voiceOf, guideOf, pitchOf, shownBy, acceptOf, heldFits, countersFit, lastFits, ringFits, passes, refusedOf, refusalBy, refusalOf, offerOf, RingValid}
+use Rattle.windows.specs.Ring.{readFrom, sumsOf, sameSums}
 use Rattle.unit.specs.declared.Answer.{Answer}
 use Rattle.unit.specs.declared.Offered.{Offered}
-use Rattle.unit.specs.declared.Sample.{Sample}
+use Rattle.rules.specs.declared.Sample.{Sample}
 use Rattle.unit.specs.declared.State.{State}
-use Rattle.unit.specs.declared.pitch.Guide.{Guide}
+use Rattle.alerts.specs.declared.pitch.Guide.{Guide}
 use Rattle.unit.proofs.Averages.{table-positive, table-met, table-unmet}
-use Rattle.unit.proofs.Choices.{cond-has, passed}
+use Rattle.rules.proofs.Choices.{cond-has, passed}
 use Rattle.unit.proofs.Follow.{coreOf, Follows, toGuide, countOf, not-zero, frames-follows, shear-follows, entry-follows, guide-next, core-next, answered, frames-are, left, left-follows, accept-follows}
 use Rattle.unit.proofs.Holding.{fresh-holds, accept-holds, fits-holds, times-valid}
-use Rattle.unit.proofs.PitchLaws.{lamp-le, unless-le, voice-le, count-le, command-ge, command-le, command-cap}
-use Rattle.unit.proofs.RangeLaws.{within-of, cut-fits, bounds, inside-bounds, in-range-fields, in-range, frames-passed, none-after, frame-at-least, Passing, passing, passes-of}
+use Rattle.alerts.proofs.CounterLaws.{lamp-le, unless-le, voice-le, count-le, command-ge, command-le, command-cap}
+use Rattle.rules.proofs.RangeLaws.{within-of, bounds, inside-bounds, in-range-fields, in-range, frames-passed, none-after, frame-at-least}
+use Rattle.unit.proofs.PassLaws.{cut-fits, Passing, passing, passes-of}
 
 -- ════ Accepted samples ════
 

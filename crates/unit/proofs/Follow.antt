@@ -10,16 +10,18 @@ use lib.Dec.{ltb, leb, eqb, lit≤}
 use lib.IntN.{ℤ, pos}
 use native.Mathlib.Decide.{decLt, decLe}
 use Rattle.rounding.specs.Cut.{cut}
-use Rattle.unit.specs.Choice.{same, smaller, anyOf}
+use Rattle.rules.specs.Choice.{same, smaller, anyOf}
 use Rattle.unit.specs.Claims.{HoldsList, EnterHolds, shows}
-use Rattle.unit.specs.Rules.{frames, change, held, entryLimit, entry, entries, windows, metUp, metDown, inBand, condition, redCondition, amberCondition, litFor, redFor, redLit, redComesOn, amberFor, amberLit, modeChange, voiceFor, cycle, voice, counted, cap, towards, Guidance, off, on, guided, guidanceBy, guidance, isOn, commandOf, inside, band}
-use Rattle.unit.specs.Steps.{beside, sumsOf, sumList, reached, someReached, metOf, framesOf, shearOf, entryOf, coreWith, windowsOf, lampNext, unlessLit, lampsOf, changedOf, keptOf, voiceNext, voiceOf, noGuide, startedOf, continuedOf, guideNext, guideOf, pitchOf, alertOf, shownOf, answerOf, shownBy, acceptOf}
+use Rattle.rules.specs.Rules.{frames, change, held, entryLimit, entry, entries, windows, metUp, metDown, inBand, condition, redCondition, amberCondition, litFor, redFor, redLit, redComesOn, amberFor, amberLit, modeChange, voiceFor, cycle, voice, counted, cap, towards, Guidance, off, on, guided, guidanceBy, guidance, isOn, commandOf, inside, band}
+use Rattle.unit.specs.Steps.{beside, framesOf, shearOf, entryOf, coreWith, windowsOf, lampsOf, voiceOf, guideOf, pitchOf, answerOf, shownBy, acceptOf}
+use Rattle.windows.specs.Ring.{sumsOf, sumList, reached, someReached, metOf}
+use Rattle.alerts.specs.Counters.{lampNext, unlessLit, changedOf, keptOf, voiceNext, noGuide, startedOf, continuedOf, guideNext, alertOf, shownOf}
 use Rattle.unit.specs.declared.Answer.{Answer}
 use Rattle.unit.specs.declared.Core.{Core}
-use Rattle.unit.specs.declared.Sample.{Sample}
+use Rattle.rules.specs.declared.Sample.{Sample}
 use Rattle.unit.specs.declared.State.{State}
-use Rattle.unit.specs.declared.pitch.Guide.{Guide}
-use Rattle.unit.specs.declared.windows.Sums.{Sums}
+use Rattle.alerts.specs.declared.pitch.Guide.{Guide}
+use Rattle.windows.specs.declared.Sums.{Sums}
 use Rattle.unit.proofs.Holding.{enter-holds}
 
 -- ════ The core that the rules give ════

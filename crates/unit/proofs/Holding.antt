@@ -15,17 +15,18 @@ use lib.Seq.{take-suc, take-take, take-all, getD-take, set-split, take-append-se
 use lib.Signed.{leZ, leZ-yes, ≤ℤ-refl}
 use Rattle.rounding.specs.Fraction.{sumℤ}
 use Rattle.rounding.proofs.Difference.{any, +D, -D, eqD, ofLe}
-use Rattle.unit.specs.Choice.{same}
+use Rattle.rules.specs.Choice.{same}
 use Rattle.unit.specs.Claims.{HoldsList, EnterHolds, FitsHolds}
-use Rattle.unit.specs.Rules.{lastOf, windowSum}
-use Rattle.unit.specs.Steps.{readFrom, backOf, movedOf, movedSums, sumsOf, framesOf, entryOf, coreAt, pushOf, pushTimes, coreWith, windowsOf, lampsOf, voiceOf, pitchOf, shownBy, acceptOf, freshCore, freshState, entryFits, heldFits, sameSums, ringFits, RingValid}
-use Rattle.unit.specs.declared.Sample.{Sample}
+use Rattle.rules.specs.Rules.{lastOf, windowSum}
+use Rattle.windows.specs.Ring.{readFrom, backOf, movedOf, movedSums, sumsOf, sameSums}
+use Rattle.unit.specs.Steps.{framesOf, entryOf, coreAt, pushOf, pushTimes, coreWith, windowsOf, lampsOf, voiceOf, pitchOf, shownBy, acceptOf, freshCore, freshState, entryFits, heldFits, ringFits, RingValid}
+use Rattle.rules.specs.declared.Sample.{Sample}
 use Rattle.unit.specs.declared.State.{State}
-use Rattle.unit.specs.declared.windows.Sums.{Sums}
-use Rattle.unit.proofs.Choices.{both-true}
-use Rattle.unit.proofs.RangeLaws.{every-set}
-use Rattle.unit.proofs.RingLaws.{read-length}
-use Rattle.unit.proofs.WindowLaws.{sum-more}
+use Rattle.windows.specs.declared.Sums.{Sums}
+use Rattle.rules.proofs.Choices.{both-true}
+use Rattle.rules.proofs.RangeLaws.{every-set}
+use Rattle.windows.proofs.RingLaws.{read-length}
+use Rattle.windows.proofs.WindowLaws.{sum-more}
 
 -- ════ A place back ════
 

@@ -3,7 +3,7 @@ use mathlib.Core.Path.{_≡_, ap}
 use Rattle.unit.specs.Steps.{offerOf, PlainPromise}
 use Rattle.unit.specs.declared.Answer.{Answer}
 use Rattle.unit.specs.declared.Offered.{Offered}
-use Rattle.unit.specs.declared.Sample.{Sample}
+use Rattle.rules.specs.declared.Sample.{Sample}
 use Rattle.unit.specs.declared.State.{State}
 
 pub plain-offered : (t : State) (s : Sample) (r : Offered) → PlainPromise t s (r .answer) (r .state) → r ≡ offerOf t s

@@ -7,15 +7,19 @@ use borrow.Author.Tests.{eq-eqb}
 use lib.IntN.{ℤ}
 use Rattle.rounding.specs.Cut.{cut}
 use Rattle.frames.specs.Frames.{framesFit}
-use Rattle.unit.specs.Rules.{refusal, entryLimit}
-use Rattle.unit.specs.Steps.{beside, readFrom, backOf, movedSums, coreAt, pushOf, pushTimes, entryFits, framesOf, shearOf, entryOf, coreWith, windowsOf, lampsOf, voiceOf, guideOf, pitchOf, answerOf, shownBy, acceptOf, passes, refusalBy, refusalOf, offerOf, PlainPromise, GuideValid, Valid, InRange}
+use Rattle.rules.specs.Rules.{refusal, entryLimit}
+use Rattle.unit.specs.Steps.{beside, coreAt, pushOf, pushTimes, entryFits, framesOf, shearOf, entryOf, coreWith, windowsOf, lampsOf, voiceOf, guideOf, pitchOf, answerOf, shownBy, acceptOf, passes, refusalBy, refusalOf, offerOf, PlainPromise, Valid}
+use Rattle.windows.specs.Ring.{readFrom, backOf, movedSums}
+use Rattle.alerts.specs.Counters.{GuideValid}
+use Rattle.rules.specs.Needs.{InRange}
 use Rattle.unit.specs.declared.Answer.{Answer}
 use Rattle.unit.specs.declared.Core.{Core}
 use Rattle.unit.specs.declared.Offered.{Offered}
-use Rattle.unit.specs.declared.Sample.{Sample}
+use Rattle.rules.specs.declared.Sample.{Sample}
 use Rattle.unit.specs.declared.State.{State}
-use Rattle.unit.proofs.Choices.{passed}
-use Rattle.unit.proofs.RangeLaws.{cut-fits, frames-passed, in-range}
+use Rattle.rules.proofs.Choices.{passed}
+use Rattle.unit.proofs.PassLaws.{cut-fits}
+use Rattle.rules.proofs.RangeLaws.{frames-passed, in-range}
 use Rattle.unit.proofs.ValidLaws.{valid}
 
 -- two states that are one have one ring and one core

@@ -9,14 +9,15 @@ use lib.IntN.{ℤ}
 use lib.ListN.{take, length-set}
 use Rattle.rounding.specs.Cut.{cut}
 use Rattle.unit.specs.Claims.{placed, Turned, TurnedAlike}
-use Rattle.unit.specs.Rules.{entryLimit}
-use Rattle.unit.specs.Steps.{beside, readFrom, backOf, movedSums, framesOf, shearOf, entryOf, coreAt, pushOf, pushTimes, coreWith, windowsOf, lampsOf, voiceOf, guideOf, pitchOf, answerOf, shownBy, acceptOf, heldFits, countersFit, lastFits, ringFits, passes, refusedOf, refusalBy, refusalOf, offerOf}
+use Rattle.rules.specs.Rules.{entryLimit}
+use Rattle.unit.specs.Steps.{beside, framesOf, shearOf, entryOf, coreAt, pushOf, pushTimes, coreWith, windowsOf, lampsOf, voiceOf, guideOf, pitchOf, answerOf, shownBy, acceptOf, heldFits, countersFit, lastFits, ringFits, passes, refusedOf, refusalBy, refusalOf, offerOf}
+use Rattle.windows.specs.Ring.{readFrom, backOf, movedSums}
 use Rattle.unit.specs.declared.Core.{Core}
-use Rattle.unit.specs.declared.Sample.{Sample}
+use Rattle.rules.specs.declared.Sample.{Sample}
 use Rattle.unit.specs.declared.State.{State}
-use Rattle.unit.specs.declared.windows.Sums.{Sums}
+use Rattle.windows.specs.declared.Sums.{Sums}
 use Rattle.unit.proofs.Holding.{read-push, back-on-ring}
-use Rattle.unit.proofs.RangeLaws.{every-turn}
+use Rattle.rules.proofs.RangeLaws.{every-turn}
 
 -- the entries of a ring, in whatever order they are read
 fits-read : (p : ℕ) (held : List ℤ) → heldFits (readFrom p held) ≡ heldFits held

@@ -7,14 +7,16 @@ use native.Mathlib.Omega.{arith}
 use lib.Dec.{lit≤}
 use lib.IntN.{ℤ, pos, natAbs}
 use lib.ListN.{length}
-use Rattle.unit.specs.Choice.{neg, within, every}
-use Rattle.unit.specs.Rules.{ranges, windowSum}
-use Rattle.unit.specs.Steps.{readFrom, sumsOf, guideOf, heldFits, passes, SumsWithin, RingValid, Valid}
+use Rattle.rules.specs.Choice.{neg, within, every}
+use Rattle.rules.specs.Rules.{ranges, windowSum}
+use Rattle.windows.specs.Ring.{readFrom, sumsOf, SumsWithin}
+use Rattle.unit.specs.Steps.{guideOf, heldFits, passes, RingValid, Valid}
 use Rattle.unit.specs.declared.State.{State}
 use Rattle.unit.proofs.Holding.{fits-holds}
-use Rattle.unit.proofs.RangeLaws.{every-at, every-turn, bounds, inside-bounds, size-le, passing}
-use Rattle.unit.proofs.RingLaws.{read-length}
-use Rattle.unit.proofs.WindowLaws.{sum-le, window-sum-take}
+use Rattle.rules.proofs.RangeLaws.{every-at, every-turn, bounds, inside-bounds, size-le}
+use Rattle.unit.proofs.PassLaws.{passing}
+use Rattle.windows.proofs.RingLaws.{read-length}
+use Rattle.windows.proofs.WindowLaws.{sum-le, window-sum-take}
 
 -- what stands past the end
 zero-in : within (neg 50000000) (pos 0) (pos 50000000) ≡ true

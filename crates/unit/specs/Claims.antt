@@ -1,6 +1,7 @@
--- The claims on states, and over every list of samples offered in the plain form, each a definition that is proved in proofs/Claims.antt, or for
--- A9 in proofs/Holding.antt and proofs/Turned.antt. A list has the newest sample first. 01: "The list in demand 3" and the last lines of "Refusal numbers".
-use mathlib.Core.Bool.{Bool, true, false, cond}
+-- The claims on states, and over every list of samples offered in the plain form, each a definition that is proved in proofs/Claims.antt or
+-- proofs/ComingOn.antt, or for A9 in proofs/Holding.antt and proofs/Turned.antt. A list has the newest sample first. 01: "The list in demand 3" and the
+-- last lines of "Refusal numbers".
+use mathlib.Core.Bool.{Bool, true, false, not, _&&_, cond}
 use mathlib.Core.List.{List, [], _∷_, _++_, List·Memᴰ}
 use mathlib.Core.Logic.{_⊎_}
 use mathlib.Core.Path.{_≡_}
@@ -10,11 +11,12 @@ use lib.IntN.{ℤ, pos}
 use lib.ListN.{length, replicate}
 use lib.Signed.{_≤ℤ_}
 use Rattle.rounding.specs.Fraction.{Fraction, _over_, _+F_, _≤F_, _<F_, AllPositive}
-use Rattle.unit.specs.Rules.{refusalAfter, held, exact, entry, exactEntry, entries, Window, windows, inBand, lastOf, average, redLit, amberLit, voice, guidance, isOn, commandOf}
-use Rattle.unit.specs.Steps.{freshCore, freshState, readFrom, sumsOf, framesOf, shearOf, entryOf, coreWith, windowsOf, shownBy, answerOf, ringFits, passes, refusedOf, refusalOf, offerOf}
+use Rattle.rules.specs.Rules.{refusalAfter, held, exact, entry, exactEntry, entries, Window, windows, inBand, lastOf, average, redLit, redComesOn, amberLit, amberComesOn, voice, guidance, isOn, commandOf}
+use Rattle.unit.specs.Steps.{freshCore, freshState, framesOf, shearOf, entryOf, coreWith, windowsOf, shownBy, answerOf, ringFits, passes, refusedOf, refusalOf, offerOf}
+use Rattle.windows.specs.Ring.{readFrom, sumsOf}
 use Rattle.unit.specs.declared.Answer.{Answer}
 use Rattle.unit.specs.declared.Core.{Core}
-use Rattle.unit.specs.declared.Sample.{Sample}
+use Rattle.rules.specs.declared.Sample.{Sample}
 use Rattle.unit.specs.declared.State.{State}
 
 -- "The first gets the fresh state .. Each later one gets the state that the one before it returned": the state after a list
@@ -67,6 +69,14 @@ unfoldable pub RefusedIsNothing : Type 0
 RefusedIsNothing =
     (before later : List Sample) (bad next : Sample) → ¬ (refusalAfter bad (accepted before) ≡ 0)
     → offerOf (stateAfter (later ++ bad ∷ before)) next ≡ offerOf (stateAfter (later ++ before)) next
+
+-- A lamp "comes on" where it is lit and was not at the sample before. The rules read that off the frames for which it has been lit, `redComesOn` and
+-- `amberComesOn`; at an accepted sample the two are one, as it stands for a frame at least (02, A6).
+pub record ComesOnOnce : Type 0 where
+  pub red : (s : Sample) (before : List Sample) → refusalAfter s before ≡ 0 → redComesOn (s ∷ before) ≡ (redLit (s ∷ before) && not (redLit before))
+  pub amber :
+      (s : Sample) (before : List Sample) → refusalAfter s before ≡ 0
+      → amberComesOn (s ∷ before) ≡ (amberLit (s ∷ before) && not (amberLit before))
 
 -- ════ A9: a ring with running sums answers as a plain list does ════
 

@@ -4,35 +4,19 @@ ghost use mathlib.Core.Bool.{true};
 ghost use Prim.Native.Nat.{_≤_};
 ghost use lib.IntN.{natAbs};
 ghost use Rattle.frames.specs.Frames.{framesFit};
-ghost use Rattle.unit.specs.Rules.{refusal};
-ghost use Rattle.unit.specs.Steps.{beside, freshCore, freshState, entryFits, RingValid, GuideValid, Valid, InRange, framesOf, shearOf, pushOf, pushTimes, windowsOf, lampsOf, voiceOf, guideOf, pitchOf, answerOf, acceptOf, refusalOf, PlainPromise};
+ghost use Rattle.rules.specs.Rules.{refusal};
+ghost use Rattle.unit.specs.Steps.{beside, freshCore, freshState, entryFits, RingValid, Valid, framesOf, shearOf, pushOf, pushTimes, windowsOf, lampsOf, voiceOf, guideOf, pitchOf, answerOf, acceptOf, refusalOf, PlainPromise};
+ghost use Rattle.alerts.specs.Counters.{GuideValid};
+ghost use Rattle.rules.specs.Needs.{InRange};
 
-mod lamps;
-mod pitch;
-pub mod ranges;
-mod shear;
-mod voice;
-pub mod windows;
+mod ranges;
 
-use crate::windows::Sums;
-
-// One sample, in the units of 01's table; it stands for one or more of the twenty frames of a second (02, A6). A field holds any value that a caller
-// may send.
-#[repr(C)]
-pub struct Sample {
-    pub along: i32,
-    pub vertical: i32,
-    pub airspeed: i32,
-    pub height: i32,
-    pub pitch: i32,
-    pub stall: i32,
-    pub climb: i32,
-    pub vs1: i32,
-    pub mode: i32,
-    pub deselect: i32,
-    // the host's number of this frame, of 16 bits that go round (02, A6)
-    pub frame: u16,
-}
+use alerts::lamps;
+use alerts::pitch;
+use alerts::voice;
+use rules::Sample;
+use rules::shear;
+use windows::Sums;
 
 // What the unit keeps from sample to sample, beside the ring's entries. A field may hold any value; refusal 8 has the limits.
 #[repr(C)]
@@ -90,15 +74,6 @@ pub struct Offered {
 pub struct Stepped {
     pub answer: Answer,
     pub core: Core,
-}
-
-impl Sample {
-    // 0, or the first of 11 to 20 that fits the sample.
-    pub fn refusal(self) -> u16
-        ensures { λ r. ⌜ r ≡ refusal self ⌝ }
-    {
-        ranges::refusal(self)
-    }
 }
 
 impl Core {
@@ -192,9 +167,9 @@ impl Core {
         ensures { λ r. ⌜ r ≡ lampsOf self height n ⌝ }
     {
         let sums = self.sums;
-        let band = ranges::between(50, height, 1000);
-        let up = lamps::both(band, sums.met(true));
-        let down = lamps::both(band, sums.met(false));
+        let band = rules::ranges::between(50, height, 1000);
+        let up = rules::ranges::both(band, sums.met(true));
+        let down = rules::ranges::both(band, sums.met(false));
         let red = lamps::next(self.red, n, up);
         self.red = red;
         self.amber = lamps::unless(red, lamps::next(self.amber, n, down));
@@ -350,7 +325,7 @@ impl State {
     {
         let passed = ranges::passes(self);
         let later = ranges::refusal_by(self.core, s);
-        let n = ranges::first_of(passed, 8, later);
+        let n = rules::ranges::first_of(passed, 8, later);
         if n == 0 {
             return self.accept(s);
         }

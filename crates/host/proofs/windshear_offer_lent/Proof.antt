@@ -39,7 +39,7 @@ use denote.Triple.Table.{entered, cited}
 use denote.Triple.Walked.{says, Stays, stay-ref, stay-none, walkOf, AllGo, goes-none, goes-ref, Walks, ends-at, walked, walk-meets}
 use Rattle.unit.specs.Steps.{offerOf, PlainPromise}
 use Rattle.unit.specs.declared.Offered.{Offered}
-use Rattle.unit.specs.declared.Sample.{Sample}
+use Rattle.rules.specs.declared.Sample.{Sample}
 use Rattle.unit.specs.declared.State.{State}
 use Rattle.unit.proofs.Offered.Laws as OfferedLaws
 use Rattle.unit.proofs.Promises.{plain-offered}

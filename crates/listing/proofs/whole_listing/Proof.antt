@@ -14,8 +14,8 @@ use Rattle.runfile.specs.Run.{testedOf}
 use Rattle.catalog.specs.Listing.{listingOf, roomOf, listedSize, listedIn}
 use Rattle.catalog.proofs.ListingLaws.{room-good, room-refused, size-fits}
 use Rattle.text.specs.Text.{written}
-use Rattle.format.specs.Header.{versionIn}
-use Rattle.format.proofs.Versions.{most-le}
+use Rattle.header.specs.Header.{versionIn}
+use Rattle.header.proofs.Versions.{most-le}
 use Rattle.runfile.proofs.RunLaws.{accepted-file}
 use Rattle.listing.proofs.whole_listing.Statement.{statement}
 use Rattle.listing.proofs.whole_listing.Tie as tie

@@ -2,7 +2,7 @@
 use borrow.Author.Needs.{needs}
 use borrow.Author.Tests.{eq-eqb, ne-eqb}
 use Rattle.format.specs.Record.{frameOf}
-use Rattle.format.proofs.Versions.{size-two}
+use Rattle.header.proofs.Versions.{size-two}
 use Rattle.format.proofs.raw.frame_in.Statement.{statement}
 use Rattle.format.proofs.raw.frame_in.Tie as tie
 

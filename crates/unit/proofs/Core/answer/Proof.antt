@@ -5,8 +5,9 @@ use borrow.Author.Needs.{needs}
 use lib.IntN.{ℤ}
 use mir.Syntax.{w32}
 use mir.Facts.{toZ-ofZ}
-use Rattle.unit.specs.Rules.{cycle}
-use Rattle.unit.specs.Steps.{alertOf, shownOf, answerOf}
+use Rattle.rules.specs.Rules.{cycle}
+use Rattle.alerts.specs.Counters.{alertOf, shownOf}
+use Rattle.unit.specs.Steps.{answerOf}
 use Rattle.unit.specs.declared.Answer.{Answer}
 use Rattle.unit.specs.declared.Core.{Core}
 use Rattle.unit.proofs.Core.answer.Statement.{statement}

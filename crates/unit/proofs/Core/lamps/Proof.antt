@@ -2,7 +2,7 @@
 use mathlib.Core.Path.{_≡_}
 use borrow.Author.Needs.{needs}
 use mir.Facts.{toZ-ofZ}
-use Rattle.unit.specs.Rules.{inside, band}
+use Rattle.rules.specs.Rules.{inside, band}
 use Rattle.unit.specs.Steps.{lampsOf}
 use Rattle.unit.proofs.Core.lamps.Statement.{statement}
 use Rattle.unit.proofs.Core.lamps.Tie as tie

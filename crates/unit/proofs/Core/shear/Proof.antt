@@ -1,7 +1,6 @@
 -- `unit::Core::shear` meets its contract: the change of along wind fits, and the call gives the held shear with its bound.
 use mathlib.Core.Path.{_∙_}
 use Prim.Native.Nat.{ℕ, _≤_}
-use borrow.Author.Needs.{needs}
 use borrow.Author.Tests.{lt-ltb, le-ltb}
 use lib.Dec.{lit<, lit≤}
 use lib.IntN.{ℤ, pos, natAbs, _-ℤ_}

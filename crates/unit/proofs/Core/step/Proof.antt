@@ -7,7 +7,8 @@ use mir.Val.{SFits}
 use mir.Facts.{toZ-ofZ}
 use Rattle.frames.specs.Frames.{framesFit}
 use Rattle.frames.proofs.FrameLaws.{fit-bounds}
-use Rattle.unit.specs.Steps.{beside, framesOf, Valid, InRange}
+use Rattle.unit.specs.Steps.{beside, framesOf, Valid}
+use Rattle.rules.specs.Needs.{InRange}
 use Rattle.unit.specs.declared.State.{State}
 use Rattle.unit.proofs.StepLaws.{leans, entry-fits, guide-kept, chain, promised}
 use Rattle.unit.proofs.Core.step.Statement.{statement}

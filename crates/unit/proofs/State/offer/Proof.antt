@@ -4,9 +4,9 @@ use mathlib.Core.Path.{_≡_, sym, _∙_}
 use Prim.Native.Nat.{ℕ}
 use borrow.Author.Needs.{needs}
 use borrow.Author.Tests.{ne-eqb}
-use Rattle.unit.specs.Choice.{firstOf}
+use Rattle.rules.specs.Choice.{firstOf}
 use Rattle.unit.specs.Steps.{passes, refusedOf, refusalBy, refusalOf, offerOf, PlainPromise}
-use Rattle.unit.specs.declared.Sample.{Sample}
+use Rattle.rules.specs.declared.Sample.{Sample}
 use Rattle.unit.specs.declared.State.{State}
 use Rattle.unit.proofs.StepLaws.{leans, promised}
 use Rattle.unit.proofs.State.offer.Statement.{statement}

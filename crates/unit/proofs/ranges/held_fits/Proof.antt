@@ -10,9 +10,9 @@ use lib.ListN.{length, getD, drop}
 use mir.Syntax.{w32}
 use mir.Val.{SFits}
 use mir.Facts.{toZ-ofZ}
-use Rattle.unit.specs.Choice.{neg, within}
+use Rattle.rules.specs.Choice.{neg, within}
 use Rattle.unit.specs.Steps.{heldFits}
-use Rattle.unit.proofs.RangeLaws.{every-past, every-drop}
+use Rattle.rules.proofs.RangeLaws.{every-past, every-drop}
 use Rattle.unit.proofs.ranges.held_fits.Statement.{statement}
 use Rattle.unit.proofs.ranges.held_fits.Tie as tie
 

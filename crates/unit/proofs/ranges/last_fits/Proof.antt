@@ -3,7 +3,7 @@ use borrow.Author.Needs.{needs}
 use mir.Syntax.{w32}
 use mir.Val.{SFits}
 use mir.Facts.{toZ-ofZ}
-use Rattle.unit.specs.Rules.{ranges, inside}
+use Rattle.rules.specs.Rules.{ranges, inside}
 use Rattle.unit.specs.Steps.{lastFits}
 use Rattle.unit.proofs.ranges.last_fits.Statement.{statement}
 use Rattle.unit.proofs.ranges.last_fits.Tie as tie

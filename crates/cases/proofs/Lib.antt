@@ -1,0 +1,2 @@
+pub mod EachOne
+pub mod Figures

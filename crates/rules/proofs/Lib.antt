@@ -1,0 +1,4 @@
+pub mod Tests
+pub mod Choices
+pub mod RangeLaws
+pub mod HeldShear
