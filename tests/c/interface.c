@@ -297,15 +297,18 @@ static int shows(const uint8_t *ten, struct windshear_answer a) {
     return ten[0] == a.alert && ten[1] == a.voice && command == a.command && (int32_t)shear == a.shear && ten[8] == a.guidance && ten[9] == 0;
 }
 
-/* Writes the run file of some samples, the floats nearest their hundredths: a quotient of whole numbers is rounded once. */
+/* The record of a sample, its floats nearest their hundredths: a quotient of whole numbers is rounded once. */
+static struct windshear_record record_of(struct windshear_sample s) {
+    const struct windshear_record r = {(float)s.along / 100, (float)s.vertical / 100, (float)s.airspeed / 100, (int16_t)s.height, (int16_t)s.pitch,
+                                       (int16_t)s.stall, (int16_t)s.climb, (uint16_t)s.vs1, (uint8_t)s.mode, (uint8_t)s.deselect, s.frame};
+    return r;
+}
+
+/* Writes the run file of some samples. */
 static void write_file(uint8_t *file, const struct windshear_sample *samples, size_t count) {
     check(windshear_write_header(1, (uint32_t)count, file, WINDSHEAR_HEADER_SIZE) == WINDSHEAR_ACCEPTED, "the header is written");
-    for (size_t i = 0; i < count; i++) {
-        const struct windshear_sample s = samples[i];
-        const struct windshear_record r = {(float)s.along / 100, (float)s.vertical / 100, (float)s.airspeed / 100, (int16_t)s.height, (int16_t)s.pitch,
-                                           (int16_t)s.stall, (int16_t)s.climb, (uint16_t)s.vs1, (uint8_t)s.mode, (uint8_t)s.deselect, s.frame};
-        check(windshear_write_record(1, r, file + START(i), WINDSHEAR_RECORD_SIZE) == WINDSHEAR_ACCEPTED, "the record is written");
-    }
+    for (size_t i = 0; i < count; i++)
+        check(windshear_write_record(1, record_of(samples[i]), file + START(i), WINDSHEAR_RECORD_SIZE) == WINDSHEAR_ACCEPTED, "the record is written");
 }
 
 /* A run file of a list that lights both lamps: the ten bytes are the lone answers, in both forms. */
@@ -856,10 +859,7 @@ static void frames(void) {
         samples[i] = exposed(i);
         frame = (uint16_t)(frame + 1 + i % 4 * (i % 23) % 20);
         samples[i].frame = frame;
-        const struct windshear_sample s = samples[i];
-        const struct windshear_record r = {(float)s.along / 100, (float)s.vertical / 100, (float)s.airspeed / 100, (int16_t)s.height, (int16_t)s.pitch,
-                                           (int16_t)s.stall, (int16_t)s.climb, (uint16_t)s.vs1, (uint8_t)s.mode, (uint8_t)s.deselect, s.frame};
-        check(windshear_write_record(2, r, file + START_2(i), WINDSHEAR_RECORD_SIZE_2) == WINDSHEAR_ACCEPTED, "a record of version 2 is written");
+        check(windshear_write_record(2, record_of(samples[i]), file + START_2(i), WINDSHEAR_RECORD_SIZE_2) == WINDSHEAR_ACCEPTED, "a record of version 2 is written");
     }
     const struct windshear_file_test test = windshear_test_file(file, sizeof file);
     check(test.refusal == WINDSHEAR_ACCEPTED && test.count == COUNT && test.version == 2, "a file of version 2");
@@ -902,7 +902,9 @@ static void frames(void) {
 /* The versions that there are, and others: 3, then 5, then 7; of a record 3, then 7. */
 static void versions(void) {
     static const uint32_t version[] = {0, 1, 2, 3, 65535, 65537, 65538, UINT32_MAX};
-    const struct windshear_record r = {0, 0, 140, 400, 5000, 20000, -700, 10000, 1, 0, 7};
+    const struct windshear_record r = {20, -10, 140, 400, 5000, 20000, -700, 10000, 1, 0, 258};
+    /* its bytes in version 2; in version 1 all but the last two */
+    static const uint8_t bytes[26] = {0, 0, 0xa0, 0x41, 0, 0, 0x20, 0xc1, 0, 0, 0x0c, 0x43, 0x90, 1, 0x88, 0x13, 0x20, 0x4e, 0x44, 0xfd, 0x10, 0x27, 1, 0, 2, 1};
     for (size_t k = 0; k < sizeof version / sizeof *version; k++) {
         const int known = version[k] == 1 || version[k] == 2, is_2 = version[k] == 2;
         const uint32_t most = is_2 ? WINDSHEAR_MAX_RECORDS_2 : WINDSHEAR_MAX_RECORDS;
@@ -913,7 +915,7 @@ static void versions(void) {
                 const uint8_t header[] = {'W', 'S', 'R', (uint8_t)version[k], 0, 0, (uint8_t)count, (uint8_t)(count >> 8)};
                 check(windshear_write_header(version[k], count, lend(length), length) == want && holds(length, header, want ? 0 : length), "a header by its version");
                 const int refusal = !known ? WINDSHEAR_REFUSED_VERSION : length != size ? WINDSHEAR_REFUSED_BUFFER : 0;
-                check(windshear_write_record(version[k], r, lend(length), length) == refusal && holds(length, lent, refusal ? 0 : length), "a record by its version");
+                check(windshear_write_record(version[k], r, lend(length), length) == refusal && holds(length, bytes, refusal ? 0 : length), "a record by its version");
             }
     }
 }

@@ -3,7 +3,8 @@
 use crate::gen::{gusts, Rng};
 use crate::library::{entries, in_order, state_of, summed, sums, with_entries};
 use crate::reference::{entry, shear, Unit, MOST_FRAMES, WINDOWS};
-use windshear::{Sample, State};
+use crate::waveform::in_band;
+use windshear::{Answer, Core, Sample, State};
 
 /// A state, what was done to it, and whether it passes 8.
 pub struct Forged {
@@ -64,19 +65,24 @@ pub fn forged() -> Vec<Forged> {
 /// Takes what is done to a state, and whether it passes then.
 type Put<'a> = &'a mut dyn FnMut(String, bool, &dyn Fn(&mut State));
 
+/// Gives a counter of a core, to be set.
+type Counter = fn(&mut Core) -> &mut u16;
+
+/// Every counter by its name.
+pub const COUNTERS: [(&str, Counter); 5] = [
+    ("seen", |core| &mut core.seen),
+    ("red", |core| &mut core.red),
+    ("amber", |core| &mut core.amber),
+    ("voice", |core| &mut core.voice),
+    ("guidance", |core| &mut core.guidance),
+];
+
 /// A counter, or a signed field with its range: its limits, one beyond each, and its type's ends.
 fn put_fields(put: Put) {
-    let counters: [(&str, fn(&mut State) -> &mut u16); 5] = [
-        ("seen", |t| &mut t.core.seen),
-        ("red", |t| &mut t.core.red),
-        ("amber", |t| &mut t.core.amber),
-        ("voice", |t| &mut t.core.voice),
-        ("guidance", |t| &mut t.core.guidance),
-    ];
-    for (name, field) in counters {
+    for (name, field) in COUNTERS {
         for value in [0, 1, 599, 600, 601, u16::MAX] {
             put(format!("{name} {value}"), value <= 600, &|t| {
-                *field(t) = value
+                *field(&mut t.core) = value
             });
         }
     }
@@ -154,39 +160,100 @@ pub fn after(state: &State, frames: u16, s: Sample) -> Sample {
     }
 }
 
-/// One sample within the band, so many frames after the last, offered in both forms, against the plain list of the
-/// entries: the shear is cut to the newest of them (02, A1), which stand there once for each frame (02, A6), the
-/// oldest are gone, each sum is summed anew, and the lamps follow those sums.
-pub fn step(state: &mut State, frames: u16, s: Sample) {
+/// The core after a sample that stands for so many frames, its sums and its place as they were: 01's rules in frames
+/// (02, A6), by arithmetic on the counters as include/windshear.h describes them, whatever they say. The conditions are
+/// red's and amber's.
+fn counted(before: &Core, frames: u16, s: &Sample, conditions: [bool; 2]) -> Core {
+    // "Lamps and voice": the counter has the frame of the coming-on, where none had passed
+    let lamp = |lit: u16, condition: bool| match lit {
+        0 => condition.into(),
+        _ if condition || lit - 1 + frames < 60 => (lit + frames).min(60),
+        _ => 0,
+    };
+    let red = lamp(before.red, conditions[0]);
+    let amber = match red {
+        0 => lamp(before.amber, conditions[1]),
+        _ => 0,
+    };
+    let comes_on = before.red == 0 && red > 0;
+    let mode_change = before.seen > 0 && before.mode != s.mode;
+    let voice = match before.voice {
+        given @ 1.. if !mode_change => (given + frames).min(73),
+        _ => comes_on.into(),
+    };
+    // "Escape pitch": the frames in a row that have counted, and the command before it is cut to the cap
+    let counts = s.climb > 0 && s.airspeed * 10 > s.vs1 * 13;
+    let guided = match before.guidance {
+        0 => comes_on.then_some((counts.into(), s.pitch)),
+        n => {
+            let most = 75 * i32::from(frames);
+            let moved = before.command + (15_000 - before.command).clamp(-most, most);
+            Some((if counts { n - 1 + frames } else { 0 }, moved))
+        }
+    };
+    let goes_on = |&(count, _): &(u16, i32)| s.deselect == 0 && count < 600;
+    let (guidance, command) = guided.filter(goes_on).map_or((0, 0), |(count, command)| {
+        (count + 1, command.min(s.stall).min(27_000))
+    });
+    Core {
+        along: s.along,
+        mode: s.mode,
+        command,
+        seen: 1,
+        red,
+        amber,
+        voice,
+        guidance,
+        frame: s.frame,
+        ..*before
+    }
+}
+
+/// One sample, so many frames after the last, offered in both forms, against the plain list of the entries: the shear is
+/// cut to the newest of them (02, A1), which stand there once for each frame (02, A6), the oldest are gone, each sum is
+/// summed anew, the conditions follow those sums, and the lamps, the voice, guidance and the command follow the counters.
+pub fn step(state: &mut State, frames: u16, s: Sample) -> Answer {
     let before = *state;
     let s = after(state, frames, s);
     let (answer, after) = before.offer(s);
     assert_eq!(state.offer_lent(s), answer);
     assert_eq!(*state, after);
-    assert_eq!(answer.refusal, 0, "{:?}", before.core);
-    assert_eq!(after.core.frame, s.frame);
     let (from, frames) = if before.core.seen == 0 {
         (s.along, 1)
     } else {
         (before.core.along, frames)
     };
     let held = shear(s.along - from, frames, s.vertical, s.airspeed);
-    assert_eq!(answer.shear, held);
     let mut list = vec![entry(held); frames.into()];
     list.extend(entries(&before));
     list.truncate(200);
     let place = usize::from(before.core.place + 200 - frames) % 200;
-    assert_eq!(after, with_entries(&after, place, &list));
-
-    let met = |sign: i64| {
+    let condition = |sign: i64| {
         let mut windows = WINDOWS.iter().zip(in_order(&summed(&list)));
-        windows.any(|(&(samples, value), sum)| sign * sum >= samples as i64 * value)
+        in_band(s.height)
+            && windows.any(|(&(samples, value), sum)| sign * sum >= samples as i64 * value)
     };
-    let held = |lit: u16| lit > 0 && lit + frames <= 60;
-    let red = met(1) || held(before.core.red);
-    let amber = met(-1) || held(before.core.amber);
-    let alert = if red { 2 } else { amber.into() };
-    assert_eq!(answer.alert, alert, "{:?}", before.core);
+    let core = counted(&before.core, frames, &s, [1, -1].map(condition));
+    let want = Answer {
+        refusal: 0,
+        alert: match (core.red, core.amber) {
+            (1.., _) => 2,
+            (_, 1..) => 1,
+            _ => 0,
+        },
+        voice: match core.voice {
+            // three cycles of 24 frames
+            n @ 0..=72 => n.div_ceil(24),
+            _ => 0,
+        },
+        guidance: (core.guidance > 0).into(),
+        command: core.command,
+        shear: held,
+    };
+    assert_eq!(answer, want, "{:?}, {s:?}", before.core);
+    let left = with_entries(&State { core, ..before }, place, &list);
+    assert_eq!(after, left, "{:?}, {s:?}", before.core);
+    answer
 }
 
 /// Frames that a sample may stand for.

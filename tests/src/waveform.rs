@@ -280,10 +280,10 @@ pub fn along_change(held: i32, frames: u16) -> i32 {
     nearest(due, 1_852_000_000) as i32
 }
 
-/// The vertical wind and airspeed, from an airspeed on, that hold a shear with so much change of along wind over so many frames: what
-/// is left of it is vertical wind over airspeed. At one airspeed the shears of two successive vertical winds are 100,000 / airspeed apart (17 at 60
-/// knots, 1.7 at 600), so the nearest may miss; at the next airspeeds they lie elsewhere, and the first that is held as wanted is
-/// taken. The unrounded shear is then within half a hundred-thousandth.
+/// The vertical wind and airspeed, from an airspeed on, that hold a shear with so much change of along wind over so many frames:
+/// what is left of it is vertical wind over airspeed. At one airspeed the shears of two successive vertical winds are
+/// 100,000 / airspeed apart (17 at 60 knots, 1.7 at 600), so the nearest may miss; at the next airspeeds they lie elsewhere, and the
+/// first that is held as wanted is taken. The unrounded shear is then within half a hundred-thousandth.
 pub fn draft(held: i32, change: i32, frames: u16, from: i32) -> Option<(i32, i32)> {
     let per_change = 1_765_197 * i128::from(frames);
     let left = i128::from(held) * per_change - i128::from(change) * 1_852_000_000;
@@ -363,8 +363,8 @@ impl Winds {
         }
     }
 
-    /// The sample so many frames after the last, with other winds and another airspeed, so that it holds exactly this shear. Where the change cannot be had, it is
-    /// one more or less, or the along wind stands still or nearly so.
+    /// The sample so many frames after the last, with other winds and another airspeed, so that it holds exactly this shear. Where
+    /// the change cannot be had, it is one more or less, or the along wind stands still or nearly so.
     pub fn hold(&mut self, rng: &mut Rng, held: i32, frames: u16, s: Sample) -> Sample {
         let wanted = self.change(rng, held, frames);
         let slowest = RANGES[2].0;
@@ -419,7 +419,7 @@ pub struct Run {
     pub alerts: Vec<u8>,
     /// 02, A6: the shears, each once for each frame of its sample, and how many of them there are at each sample.
     entries: Vec<i32>,
-    ends: Vec<usize>,
+    pub ends: Vec<usize>,
     /// The reference's red and amber condition.
     pub conditions: Vec<[bool; 2]>,
 }

@@ -6,14 +6,21 @@ use windshear_tests::both::Both;
 use windshear_tests::examples::{examples, texts, FOLDER};
 use windshear_tests::exchange::Exchange;
 use windshear_tests::files::right_len;
+use windshear_tests::library::refused_file;
+
+fn stored(name: &str) -> Vec<u8> {
+    fs::read(format!("{FOLDER}/{name}")).unwrap()
+}
 
 #[test]
 fn stored_as_made() {
     let both = Both::new();
     let mut names = BTreeSet::new();
     let mut is_stored = |name: String, made: &[u8]| {
-        let stored = fs::read(format!("{FOLDER}/{name}")).unwrap();
-        assert!(stored == made, "{name} is not what make_examples writes");
+        assert!(
+            stored(&name) == made,
+            "{name} is not what make_examples writes"
+        );
         names.insert(name);
     };
     for (name, made) in examples() {
@@ -70,6 +77,29 @@ fn what_they_show() {
     both.done();
 }
 
+/// 02, A6, and README: of the run with dropped frames, those of the records where red comes on, where the number goes round and where
+/// red goes dark; and where the host that falls behind is refused.
+#[test]
+fn frames_elapsed() {
+    let both = Both::new();
+    let file = stored("dropped.wsr");
+    let bytes = both.run(&file, right_len(&file)).unwrap();
+    let frame = |place| both.read_record(&file, place).unwrap().record.frame;
+    let frames: Vec<_> = (0..bytes.len() / 10).map(frame).collect();
+    let elapsed = |from: usize, to: usize| frames[to].wrapping_sub(frames[from]);
+    assert_eq!([59, 72, 83].map(|at| elapsed(at - 1, at)), [3, 20, 8]);
+    assert_eq!(frames[71..=72], [65_523, 7]);
+    let most = (1..frames.len()).map(|at| elapsed(at - 1, at)).max();
+    assert_eq!(most, Some(20));
+    let red = (0..frames.len()).filter(|at| bytes[10 * at] == 2);
+    assert!(red.eq(59..83));
+    assert_eq!([82, 83].map(|at| elapsed(59, at)), [58, 66]);
+
+    let behind = both.test_file(&stored("behind.wsr"));
+    assert_eq!(behind, refused_file(21u16, 23));
+    both.done();
+}
+
 /// How many lines of each listing are exact, and rounded: 01's three are all exact, and the others show both.
 #[test]
 fn floats_of_both_kinds() {
@@ -95,7 +125,6 @@ fn floats_of_both_kinds() {
 #[test]
 fn texts_exchanged() {
     let mut exchange = Exchange::new();
-    let stored = |name: &str| fs::read(format!("{FOLDER}/{name}")).unwrap();
     let file = exchange.accepted(&stored("shop.csv"), true);
     assert!(file == stored("shop.wsr"));
     assert_eq!(exchange.export(&file), Ok(stored("shop.csv")));
@@ -119,13 +148,13 @@ fn readme_listings() {
     let blocks = readme.split("```text\n").skip(1);
     let blocks = blocks.filter_map(|block| block.split("```").next());
     let shown: Vec<&str> = blocks.filter(|b| b.starts_with("sample ")).collect();
-    let stored = |name: &str| fs::read_to_string(format!("{FOLDER}/{name}.txt")).unwrap();
+    let listing = |name: &str| String::from_utf8(stored(&format!("{name}.txt"))).unwrap();
     assert_eq!(shown.len(), 3);
-    assert_eq!(shown[0], stored("gust"));
+    assert_eq!(shown[0], listing("gust"));
 
     let mut lines = shown[0].lines().count();
     for (shown, name) in shown[1..].iter().zip(["microburst", "dropped"]) {
-        let changes = stored(name);
+        let changes = listing(name);
         let mut last = None;
         let changes = changes.lines().filter(|line| {
             let fields: Vec<_> = line.split(' ').collect();

@@ -207,42 +207,43 @@ fn a_shear_enters_once_for_each_frame() {
     let mut judged = 0u64;
     for (samples, value) in WINDOWS {
         for held in [value as i32 - 1, value as i32, CUT, CUT + 1_000] {
-            for (vertical, airspeed) in plateaus(held).into_iter().take(1) {
-                for each in 0..=MOST_FRAMES {
-                    let list = series(230, |_, s| (s.vertical, s.airspeed) = (vertical, airspeed));
-                    let list = numbered(&list, 9, |_| match each {
-                        0 => rng.within(1, 20) as u16,
-                        _ => each,
-                    });
-                    let (mut pair, mut entries) = (both.fresh("flat"), Vec::new());
-                    let mut last = None;
-                    for s in &list {
-                        pair.offer(s).unwrap();
-                        let n = frames(last, s).unwrap();
-                        last = Some(s);
-                        entries.resize(entries.len() + usize::from(n), held.min(CUT));
-                        let met = |n: usize, value: i64| {
-                            entries
-                                .iter()
-                                .rev()
-                                .take(n)
-                                .map(|&e| i64::from(e))
-                                .sum::<i64>()
-                                >= n as i64 * value
-                        };
-                        let windows: Vec<_> = WINDOWS
+            let (vertical, airspeed) = plateaus(held)[0];
+            for each in 0..=MOST_FRAMES {
+                let list = series(230, |_, s| (s.vertical, s.airspeed) = (vertical, airspeed));
+                let list = numbered(&list, 9, |_| match each {
+                    0 => rng.within(1, 20) as u16,
+                    _ => each,
+                });
+                let (mut pair, mut entries) = (both.fresh("flat"), Vec::new());
+                let mut last = None;
+                for s in &list {
+                    pair.offer(s).unwrap();
+                    let n = frames(last, s).unwrap();
+                    last = Some(s);
+                    entries.resize(entries.len() + usize::from(n), held.min(CUT));
+                    let met = |n: usize, value: i64| {
+                        entries
                             .iter()
-                            .filter(|w| met(w.0, w.1))
-                            .map(|w| w.0)
-                            .collect();
-                        assert_eq!(pair.windows_met(1), windows, "{samples} {held} {each}");
-                        judged += 1;
-                    }
+                            .rev()
+                            .take(n)
+                            .map(|&e| i64::from(e))
+                            .sum::<i64>()
+                            >= n as i64 * value
+                    };
+                    let windows: Vec<_> = WINDOWS
+                        .iter()
+                        .filter(|w| met(w.0, w.1))
+                        .map(|w| w.0)
+                        .collect();
+                    assert_eq!(pair.windows_met(1), windows, "{samples} {held} {each}");
+                    judged += 1;
                 }
             }
         }
     }
     println!("compared {judged} judgements of flat shears over frames");
+    // six windows, four shears, one to 20 frames or a mixture, and each list's samples
+    assert_eq!(judged, 6 * 4 * 21 * 230);
     both.done();
 }
 

@@ -3,10 +3,10 @@
 use std::collections::{BTreeMap, HashSet};
 use windshear::{Core, Sample, State};
 use windshear_tests::both::Both;
-use windshear_tests::forged::{after as numbered_after, forged, some_frames, step, LIMIT};
-use windshear_tests::gen::{self, all_lists, dropped_lists, Rng};
+use windshear_tests::forged::{after, forged, some_frames, step, COUNTERS, LIMIT};
+use windshear_tests::gen::{self, all_lists, dropped_lists, random_sample, Rng};
 use windshear_tests::library::{expected, sent, with_entries};
-use windshear_tests::reference::CUT;
+use windshear_tests::reference::{CUT, MOST_FRAMES};
 
 /// At every sample of every list the answer and the state are the reference's, within the bounds that refusal 8 names; and the
 /// lists reach every event. The events are told by the reference's counters, which do not stop.
@@ -20,7 +20,7 @@ fn every_list_answers_and_leaves_what_the_reference_does() {
         let mut pair = both.fresh(&name);
         let mut last = None;
         let (mut red_for, mut amber_for, mut counted) = (0, 0, None);
-        let (mut voice_for, mut seen_frames) = (0, 0);
+        let (mut voice_for, mut seen_frames, mut command) = (0, 0, 0);
         for s in &list {
             let answer = match pair.offer(s) {
                 Ok(answer) => answer,
@@ -40,6 +40,7 @@ fn every_list_answers_and_leaves_what_the_reference_does() {
             let climbed = counted.is_some() && !answer.guidance && s.deselect == 0;
             let frames = unit.frames() - seen_frames;
             let mode_change = last.is_some_and(|mode| mode != s.mode);
+            let to_15_000 = u64::from(15_000_i32.abs_diff(command));
             let events = [
                 ("red", answer.alert == 2),
                 ("amber", answer.alert == 1),
@@ -99,7 +100,10 @@ fn every_list_answers_and_leaves_what_the_reference_does() {
                 ),
                 (
                     "command at 15,000 sooner than a whole step",
-                    frames > 1 && answer.guidance && answer.command == 15_000,
+                    counted.is_some()
+                        && answer.command == 15_000
+                        && frames > 1
+                        && (1..75 * frames).contains(&to_15_000),
                 ),
                 (
                     "599 then a break",
@@ -118,6 +122,7 @@ fn every_list_answers_and_leaves_what_the_reference_does() {
             (last, counted) = (Some(s.mode), unit.guidance_counted());
             (red_for, amber_for) = (unit.red_lit_for(), unit.amber_lit_for());
             (voice_for, seen_frames) = (unit.voice_since(), unit.frames());
+            command = answer.command;
         }
     }
     assert_eq!(refusals, (11..=21).collect());
@@ -171,7 +176,7 @@ fn forged_states_are_refused_by_8_exactly_at_its_limits() {
             );
         }
         // 8 comes before the sample's own numbers, and they before 21, which a first sample never meets
-        let late = numbered_after(&t.state, 21, calm());
+        let late = after(&t.state, 21, calm());
         let early = Sample {
             frame: late.frame,
             ..bad
@@ -245,25 +250,169 @@ fn what_passes_is_answered_and_passes_again() {
                         climb: 10_000,
                         ..calm()
                     };
-                    let frames = some_frames(&mut rng);
-                    let s = numbered_after(&t, frames, s);
-                    let frames = if t.core.seen == 0 { 1 } else { frames };
-                    let (answer, after) = t.offer(s);
-                    assert_eq!(answer.refusal, 0, "{:?}", t.core);
-                    assert!(
-                        after.core.red <= 60
-                            && after.core.amber <= 60
-                            && after.core.voice <= 73
-                            && after.core.guidance <= 600
-                    );
-                    // red by its condition or its hold, else amber by its condition
-                    let red = held > 0 || t.core.red > 0 && t.core.red + frames <= 60;
-                    assert_eq!(answer.alert, if red { 2 } else { 1 }, "{:?}", t.core);
-                    t = after;
-                    compared += 1;
+                    let answer = step(&mut t, some_frames(&mut rng), s);
+                    assert!(answer.alert == 2 || held < 0 && answer.alert == 1);
+                    let Core {
+                        red,
+                        amber,
+                        voice,
+                        guidance,
+                        ..
+                    } = t.core;
+                    assert!(red <= 60 && amber <= 60 && voice <= 73 && guidance <= 600);
+                    compared += 4;
                 }
             }
         }
     }
-    println!("compared {compared} answers of states at their limits");
+    println!("compared {compared} answers and states of states at their limits");
+}
+
+/// A counter: 0, anywhere up to 600, or where something changes.
+fn some_count(rng: &mut Rng) -> u16 {
+    let any = rng.within(0, 600) as u16;
+    let other = rng.pick(&[1, 2, 24, 25, 48, 49, 59, 60, 72, 73, 590, 600, any]);
+    rng.pick(&[0, other, other])
+}
+
+/// Each counter at every value that passes 8, with every number of frames; the others, the command, the condition and the
+/// sample are any.
+#[test]
+fn every_count_with_every_number_of_frames() {
+    let (mut rng, mut compared) = (Rng::new(89), 0u64);
+    let mut seen = BTreeMap::new();
+    for n in 0..=600 {
+        for (frames, (_, counter)) in
+            (1..=MOST_FRAMES).flat_map(|frames| COUNTERS.map(|counter| (frames, counter)))
+        {
+            let [near, far] = [rng.within(13_400, 16_600), rng.within(-30_000, 27_000)];
+            let mut core = Core {
+                mode: rng.within(0, 1),
+                command: rng.pick(&[-30_000, 0, 15_000, 27_000, near, near, far]),
+                seen: some_count(&mut rng),
+                red: some_count(&mut rng),
+                amber: some_count(&mut rng),
+                voice: some_count(&mut rng),
+                guidance: some_count(&mut rng),
+                frame: rng.draw() as u16,
+                ..State::fresh().core
+            };
+            *counter(&mut core) = n;
+            let state = State {
+                core,
+                ..State::fresh()
+            };
+            let mut state = with_entries(&state, 0, &[rng.pick(&[-LIMIT, 0, LIMIT]); 200]);
+            let s = Sample {
+                height: rng.pick(&[49, 50, 400, 1_000, 1_001]),
+                mode: if rng.one_in(4) {
+                    1 - core.mode
+                } else {
+                    core.mode
+                },
+                deselect: rng.one_in(6).into(),
+                ..sent(&random_sample(&mut rng))
+            };
+            let answer = step(&mut state, frames, s);
+            compared += 4;
+
+            let left = state.core;
+            let frames = if core.seen == 0 { 1 } else { frames };
+            let silenced = core.seen > 0 && core.mode != s.mode;
+            let comes_on = core.red == 0 && left.red > 0;
+            let ends = core.guidance > 0 && left.guidance == 0;
+            let stays = core.guidance > 0 && left.guidance > 0;
+            let moved = i32::from(frames) * 75;
+            let events = [
+                (
+                    "red comes to its 60th frame",
+                    core.red < 60 && left.red == 60,
+                ),
+                ("red out", core.red > 0 && left.red == 0),
+                (
+                    "amber out",
+                    core.amber > 0 && left.amber == 0 && left.red == 0,
+                ),
+                ("amber stays lit", core.amber > 0 && answer.alert == 1),
+                ("voice starts", core.voice == 0 && left.voice == 1),
+                (
+                    "voice again with a mode change",
+                    core.voice > 1 && left.voice == 1,
+                ),
+                (
+                    "voice silenced",
+                    (1..=72).contains(&core.voice) && silenced && left.voice == 0,
+                ),
+                (
+                    "no voice at a coming-on",
+                    comes_on && core.voice > 72 && answer.voice == 0,
+                ),
+                (
+                    "first cycle goes on",
+                    core.voice > 0 && left.voice > 1 && answer.voice == 1,
+                ),
+                ("second cycle", core.voice > 0 && answer.voice == 2),
+                ("third cycle", core.voice > 0 && answer.voice == 3),
+                (
+                    "voice runs out",
+                    (1..=72).contains(&core.voice) && left.voice == 73,
+                ),
+                (
+                    "guidance starts, counted",
+                    comes_on && core.guidance == 0 && left.guidance == 2,
+                ),
+                (
+                    "guidance starts, not counted",
+                    comes_on && core.guidance == 0 && left.guidance == 1,
+                ),
+                (
+                    "guidance not started",
+                    comes_on && core.guidance == 0 && left.guidance == 0,
+                ),
+                ("a coming-on changes nothing", comes_on && stays),
+                ("deselected", ends && s.deselect == 1),
+                (
+                    "the count reaches 600",
+                    ends && s.deselect == 0 && core.guidance - 1 + frames == 600,
+                ),
+                (
+                    "the count goes past 600",
+                    ends && s.deselect == 0 && core.guidance - 1 + frames > 600,
+                ),
+                (
+                    "the count goes on",
+                    stays && left.guidance == core.guidance + frames,
+                ),
+                (
+                    "the count is broken",
+                    stays && core.guidance > 1 && left.guidance == 1,
+                ),
+                (
+                    "the command moves up",
+                    stays && left.command == core.command + moved,
+                ),
+                (
+                    "the command moves down",
+                    stays && left.command == core.command - moved,
+                ),
+                (
+                    "the command comes to 15,000",
+                    stays && core.command != 15_000 && left.command == 15_000,
+                ),
+                (
+                    "the command is cut",
+                    stays && left.command == s.stall && s.stall < core.command - moved,
+                ),
+                (
+                    "a command while off",
+                    core.guidance == 0 && core.command != 0 && left.guidance == 0,
+                ),
+            ];
+            for (event, happened) in events {
+                *seen.entry(event).or_insert(0u64) += u64::from(happened);
+            }
+        }
+    }
+    println!("compared {compared} answers and states of forged counters: {seen:?}");
+    assert!(seen.values().all(|&times| times > 100), "{seen:?}");
 }

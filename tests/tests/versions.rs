@@ -58,11 +58,6 @@ impl Tally {
     }
 }
 
-/// The calm samples of a file, each one frame after another from a first number on.
-fn calm(first: u16, count: usize) -> Vec<Sample> {
-    numbered(&vec![CALM; count], first, |_| 1)
-}
-
 /// Every list with dropped frames as a version 2 file: as it is, which is refused at its first bad sample; its accepted samples,
 /// which are answered as they are alone; and these damaged.
 #[test]
@@ -166,19 +161,18 @@ fn every_elapsed_number_at_every_place() {
             assert_eq!(tally.whole(&samples_in(&ONE, &list)).0, Outcome::default());
         }
     }
-    let mut last = samples_in(&TWO, &calm(0, TWO.most));
-    assert_eq!(tally.whole(&last).0, Outcome::default());
+    let mut longest = calm_file_in(&TWO, TWO.most);
+    assert_eq!(tally.whole(&longest).0, Outcome::default());
     for place in [1, 255, 256, 2_498, 2_499] {
-        let kept = place_mut(&mut last, place)[24];
-        place_mut(&mut last, place)[24] ^= 0x40;
-        assert_eq!(tally.whole(&last).0, refused(21u16, place));
-        place_mut(&mut last, place)[24] = kept;
+        let kept = place_mut(&mut longest, place)[24];
+        place_mut(&mut longest, place)[24] ^= 0x40;
+        assert_eq!(tally.whole(&longest).0, refused(21u16, place));
+        place_mut(&mut longest, place)[24] = kept;
     }
     tally.done("files with every elapsed number", [0, 21]);
 }
 
-/// Of several bad records the first decides, and in it 20 goes before 21; 21 is told of the records as they stand, so that a bad one
-/// before another keeps its number for it.
+/// Of several bad records the first decides, and in it 11 to 20 go before 21.
 #[test]
 fn the_first_bad_record_and_its_first_number() {
     let (mut rng, mut tally) = (Rng::new(622), Tally::default());
@@ -186,9 +180,8 @@ fn the_first_bad_record_and_its_first_number() {
     for _ in 0..12_000 {
         let count = rng.within(1, 12) as usize;
         let mut file = random_file_in(&mut rng, &TWO, count as i32);
-        // by place: the fields made bad, and whether the number is
-        let mut first = None;
-        for place in 0..count {
+        let first = (0..count).find_map(|place| {
+            // the fields made bad, and whether the number is
             let set = if rng.one_in(8) {
                 rng.draw() as u32 & rng.draw() as u32 & 1_023
             } else {
@@ -201,20 +194,19 @@ fn the_first_bad_record_and_its_first_number() {
                 place_mut(&mut file, place)[24..].copy_from_slice(&frame.to_le_bytes());
             }
             spoil(&mut rng, &bad, place_mut(&mut file, place), set);
-            let number = match (set, late) {
-                (0, false) => continue,
-                (0, true) => 21,
-                _ => 11 + set.trailing_zeros() as u16,
-            };
-            first = first.or(Some((number, place)));
-            // what follows is measured from this number: it may be late by it, so the rest is left as it is
-            break;
+            match (set, late) {
+                (0, false) => None,
+                (0, true) => Some((21, place)),
+                _ => Some((11 + set.trailing_zeros() as u16, place)),
+            }
+        });
+        if let Some((_, place)) = first {
+            for later in place + 1..count {
+                let set = rng.pick(&[0, 0, 1_023]) & rng.draw() as u32;
+                spoil(&mut rng, &bad, place_mut(&mut file, later), set);
+            }
         }
         let (number, place) = first.unwrap_or_default();
-        for later in place + 1..if first.is_some() { count } else { 0 } {
-            let set = rng.pick(&[0, 0, 1_023]) & rng.draw() as u32;
-            spoil(&mut rng, &bad, place_mut(&mut file, later), set);
-        }
         assert_eq!(tally.whole(&file).0, refused(number, place));
     }
     tally.done("version 2 files with bad records", (0..=0).chain(11..=21));
@@ -330,14 +322,19 @@ const WRITTEN: [u32; 10] = [
     u32::MAX,
 ];
 
+/// The version of a number, if there is one.
+fn known(number: u32) -> Option<&'static Version> {
+    VERSIONS
+        .iter()
+        .find(|version| u32::from(version.number) == number)
+}
+
 /// Headers: 3, then 5, then 7; a refused one leaves the buffer.
 #[test]
 fn headers_by_version() {
     let both = Both::new();
     for version in WRITTEN {
-        let known = VERSIONS
-            .iter()
-            .find(|known| u32::from(known.number) == version);
+        let known = known(version);
         for count in [
             0,
             1,
@@ -396,9 +393,7 @@ fn records_by_version() {
         let record = read_record(&bytes);
         assert_eq!(record.frame, frame);
         for version in WRITTEN {
-            let known = VERSIONS
-                .iter()
-                .find(|known| u32::from(known.number) == version);
+            let known = known(version);
             for len in [0, 8, 23, 24, 25, 26, 27, 48, 52] {
                 let written = both.write_record(version, &record, len);
                 let number = match (known, spoiled) {

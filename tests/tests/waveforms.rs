@@ -566,9 +566,9 @@ struct Kept {
     out_of_order: u64,
 }
 
-/// Of two runs with equal heights and modes, one with each shear at least the other's: the red condition holds in it wherever it
-/// holds in the other, so that its red lamp is lit there, and wherever the other's comes on. The amber condition goes the other
-/// way. Gives back how often each was so.
+/// Of two runs with equal heights, modes and frames, one with each shear at least the other's: the red condition holds in it
+/// wherever it holds in the other, so that its red lamp is lit there, and wherever the other's comes on. The amber condition goes the
+/// other way. Gives back how often each was so.
 fn kept_in_order(both: &Both, seed: u64, most: u16) -> Kept {
     let mut rng = Rng::new(seed);
     let mut places = 0u64;
@@ -578,6 +578,7 @@ fn kept_in_order(both: &Both, seed: u64, most: u16) -> Kept {
         let [lower, higher] = lists.map(|list| Run::of(both, &format!("pair {k}"), &list));
         assert_eq!(lower.heights, higher.heights);
         assert_eq!(lower.modes, higher.modes);
+        assert_eq!(lower.ends, higher.ends);
         for at in 0..lower.alerts.len() {
             assert!(lower.shears[at] <= higher.shears[at]);
             let ([red_lower, amber_lower], [red_higher, amber_higher]) =

@@ -93,8 +93,8 @@ pub const ENTRY_LIMIT: i32 = 34_500;
 /// of a record that is accepted are never cut.
 pub const HUNDREDTHS_LIMIT: i32 = 1_000_000;
 
-/// One sample, which stands for the frames since the one before it; twenty make a second. A field may hold any value; each says what is accepted. The
-/// default is all zeros, and is refused.
+/// One sample, which stands for the frames since the last accepted one; twenty frames make a second. A field may hold any value; each says what is
+/// accepted. The default is all zeros, and is refused.
 #[repr(C)]
 #[derive(Clone, Copy, Debug, Default, PartialEq, Eq)]
 pub struct Sample {
@@ -265,8 +265,8 @@ pub mod refusal {
     pub const VERSION: u16 = 3;
     /// sixth byte is not zero
     pub const ZERO: u16 = 4;
-    /// count above [`MAX_RECORDS`](crate::MAX_RECORDS), in version 2 above [`MAX_RECORDS_2`](crate::MAX_RECORDS_2); or a text of more samples than the
-    /// first
+    /// count above [`MAX_RECORDS`](crate::MAX_RECORDS), in version 2 above [`MAX_RECORDS_2`](crate::MAX_RECORDS_2); or a text of more than
+    /// `MAX_RECORDS` samples
     pub const COUNT: u16 = 5;
     /// length is not [`HEADER_SIZE`](crate::HEADER_SIZE) + [`RECORD_SIZE`](crate::RECORD_SIZE) × count, in version 2 with
     /// [`RECORD_SIZE_2`](crate::RECORD_SIZE_2)

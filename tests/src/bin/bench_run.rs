@@ -1,6 +1,7 @@
 //! A whole run of each of three files of 2,600 records: the library, the plain program and the reference by turns. Then 2,500 records
 //! in version 1, in version 2 with one frame each, and in version 2 with 1 to 20 frames each, by turns.
-//! With an argument, a shared object that holds an earlier library, today's, that one and the plain program by turns as well.
+//! With an argument, a shared object that holds an earlier library, today's, that one and the plain program by turns as well; and
+//! version 2 by today's beside version 1 by that one.
 
 use std::hint::black_box;
 use windshear::Outcome;
@@ -17,7 +18,7 @@ fn main() {
         measure(name, &file, earlier.as_ref());
     }
     for (name, list) in three_lists(2_500) {
-        measure_versions(name, &list);
+        measure_versions(name, &list, earlier.as_ref());
     }
 }
 
@@ -38,7 +39,7 @@ fn by_plain(file: &[u8]) -> impl FnMut() + '_ {
 }
 
 /// 02, A6: what a frame number costs, and what frames do.
-fn measure_versions(name: &str, list: &[Sample]) {
+fn measure_versions(name: &str, list: &[Sample], earlier: Option<&Earlier>) {
     let mut rng = Rng::new(63);
     let dropped = numbered(list, 0, |_| some_frames(&mut rng));
     let [one, two] = &VERSIONS;
@@ -65,6 +66,19 @@ fn measure_versions(name: &str, list: &[Sample]) {
             library * 1e6 / 2_500.0,
             library / times[0],
             library / plain
+        );
+    }
+    if let Some(earlier) = earlier {
+        let mut answers = vec![0; 25_000];
+        assert_eq!(earlier.run(&files[0], &mut answers), Outcome::default());
+        let mut before = || {
+            black_box(earlier.run(black_box(&files[0]), &mut answers));
+        };
+        let [now, before] = medians(401, [&mut l2, &mut before]);
+        println!(
+            "2,500 records, {name}, version 2, one frame each, beside version 1 by the earlier library: \
+             now {now:.3} ms, earlier {before:.3} ms; now / earlier {:.2}",
+            now / before
         );
     }
 }
