@@ -802,7 +802,7 @@ fn repository(name: &str) -> Shop {
     for source in SOURCES {
         put(source, "");
     }
-    put("crates.txt", "# the crates\nlow:\nbeside: low\nhigh: low bytes\nhost: low high bytes\n");
+    put("crates.txt", "# the crates\nlow:\nbeside: low\nhigh: low bytes\nhost: high bytes\n");
     let says = "#!/bin/sh\necho \"${0##*/} $*\" | tee -a asked\nif [ -e fails ] && grep -qx \"$1 $2\" fails; then echo 'it fails' >&2; exit 1; fi\n";
     put("bin/rt", says);
     put("bin/cargo", &format!("{says}mkdir -p target/cargo/release\nsleep 0.2\ncp bin/command target/cargo/release/windshear\n"));

@@ -1,2 +1,3 @@
 pub mod EachOne
 pub mod Figures
+pub mod Starred

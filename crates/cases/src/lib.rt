@@ -1,1 +1,1 @@
-// Cases of the rules: the one list of figures, and every list whose samples each stand for one frame. Claims over the rules alone; no function.
+// Cases of the rules: the figures, the starred cases as one list, and every list whose samples each stand for one frame. No function.

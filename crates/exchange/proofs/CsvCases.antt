@@ -6,13 +6,13 @@ use Prim.Native.String.{String}
 use lib.IntN.{pos, negℤ}
 use lib.ListN.{replicate}
 use Rattle.header.specs.Header.{mostRecords}
-use Rattle.text.specs.Number.{allDigits, valueFrom, wholeSize, twoDecimals, knotsSize, signLength, withSign, wholeOf, knotsOf}
+use Rattle.numbers.specs.Number.{allDigits, valueFrom, wholeSize, twoDecimals, knotsSize, signLength, withSign, wholeOf, knotsOf}
 use Rattle.text.specs.Text.{ascii}
 use Rattle.rules.specs.Choice.{within}
 use Rattle.rules.specs.Rules.{ranges, inside, inRange, firstBad, refusal}
 use Rattle.rules.specs.declared.Sample.{Sample}
 use Rattle.csv.specs.Csv.{names, speeds, longer, split, quoted, unquoted, endsInCr, fieldsOf, same, named, numberIn, andThen, numbersOf, sampleFrom, numbersIn, rowThen, lastOf, rowsOf}
-use Rattle.exchange.specs.Import.{Tested, refused, accepted, firstRefused, testedSamples, testedRows, testedLines, testedText}
+use Rattle.import.specs.Import.{Tested, refused, accepted, firstRefused, testedSamples, testedRows, testedLines, testedText}
 
 abbrev crlf : List ℕ
 crlf = 13 ∷ 10 ∷ []

@@ -12,15 +12,16 @@ use lib.Seq.{drop-drop}
 use Rattle.format.specs.Claims.{Bytes, WritesReadAt}
 use Rattle.header.specs.Header.{headerSize, mostRecords, versionIn, countIn, headerBytes, recordStart, bytesAt, recordSize}
 use Rattle.format.specs.Reading.{foundRecord}
-use Rattle.format.specs.Record.{parseOf, recordBytes}
+use Rattle.raw.specs.Record.{parseOf, recordBytes}
 use Rattle.format.specs.Refusal.{sampleOf, recordRefusal}
-use Rattle.format.specs.declared.Record.{Record}
+use Rattle.raw.specs.declared.Record.{Record}
 use Rattle.header.specs.declared.Header.the-variants.{Records}
 use Rattle.format.specs.declared.reading.Reading.{Reading}
 use Rattle.header.proofs.Headers.{header-counted, written-read-header}
 use Rattle.format.proofs.ReadingClaims.{finds-readable, writes-read-at}
-use Rattle.runfile.specs.Run.{recordsOf, samplesIn}
-use Rattle.runfile.proofs.RunLaws.{records-length, left, left-all, left-more, left-none}
+use Rattle.tested.specs.Tested.{recordsOf}
+use Rattle.runfile.specs.Run.{samplesIn}
+use Rattle.tested.proofs.TestedLaws.{records-length, left, left-all, left-more, left-none}
 use Rattle.text.specs.Text.{absent}
 use Rattle.text.proofs.TextLaws.{absent-append}
 use Rattle.rules.proofs.Choices.{both-true}
@@ -29,13 +30,15 @@ use Rattle.rules.specs.Rules.{refusal}
 use Rattle.rules.specs.declared.Sample.{Sample}
 use Rattle.exchange.specs.Claims.{NoneQuoted, PlainFields, PlainText, ExportsImported, ImportsExported, PlainExported, NearestSpeeds, SameBytes}
 use Rattle.csv.specs.Csv.{Numbers, Rows, names, speeds, comma, quote, lf, split, quoted, endsInCr, fieldsOf, same, named, numbersOf, sampleFrom, numbersIn, rowThen, lastOf, rowsOf}
-use Rattle.exchange.specs.Export.{line, sampleLine, sampleLines, csvText, exportText, exportTested, exportNeeds}
-use Rattle.exchange.specs.Import.{accepted, refused, testedRows, testedLines, testedText, nearestRecord, recordsFile, runFile, importedFile}
-use Rattle.exchange.proofs.ExportLaws.{needs-tested}
-use Rattle.exchange.proofs.ImportClaims.{GoodRun, AcceptedText, accepted-text, good-accepted, in-limit, file-version, imported, import-reads}
+use Rattle.export.specs.Export.{line, sampleLine, sampleLines, csvText, exportText, exportTested, exportNeeds}
+use Rattle.import.specs.Import.{accepted, refused, testedRows, testedLines, testedText, nearestRecord, recordsFile, runFile, importedFile}
+use Rattle.export.proofs.ExportLaws.{needs-tested}
+use Rattle.import.proofs.AcceptedLaws.{GoodRun, AcceptedText, accepted-text, good-accepted, in-limit, imported}
+use Rattle.exchange.proofs.ImportClaims.{file-version, import-reads}
 use Rattle.exchange.proofs.JoinLaws.{Some, Field, split-some, joined, joined-split, none-quoted, line-back, pieceOf, fields-again, split-line, line-no-quote}
 use Rattle.exchange.proofs.RowLaws.{numbers-same, texts-back, sampleTexts, some-texts, all-fields, sample-again, sample-plain}
-use Rattle.exchange.proofs.VersionLaws.{Unrefused, AllInRange, samples-unrefused, Unnumbered, record-unnumbered, numbered-zero, tested-one, Exportable, exportable}
+use Rattle.export.proofs.VersionLaws.{Unrefused, samples-unrefused, record-unnumbered, tested-one, Exportable, exportable}
+use Rattle.csv.proofs.SampleLaws.{AllInRange, Unnumbered, numbered-zero}
 
 -- ════ The lines of a text, written back ════
 

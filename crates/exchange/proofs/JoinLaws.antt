@@ -14,7 +14,7 @@ use Rattle.rules.proofs.Choices.{both-true}
 use Rattle.rules.specs.Choice.{AllOf}
 use Rattle.exchange.specs.Claims.{NoneQuoted}
 use Rattle.csv.specs.Csv.{comma, quote, cr, lf, split, longer, quoted, unquoted, endsInCr, fieldsOf}
-use Rattle.exchange.specs.Export.{line}
+use Rattle.export.specs.Export.{line}
 
 -- what holds of each element, by what else does
 pub all-so {ℓ} : {A : Type ℓ} {P Q : A → Type 0} (l : List A) → ((a : A) → P a → Q a) → AllOf P l → AllOf Q l

@@ -2,10 +2,6 @@ pub mod VersionLaws
 pub mod JoinLaws
 pub mod RowLaws
 pub mod ImportClaims
-pub mod ImportLaws
-pub mod WriteLaws
-pub mod AnswerLaws
-pub mod ExportLaws
 pub mod ExportClaims
 pub mod TripClaims
 pub mod NearClaims

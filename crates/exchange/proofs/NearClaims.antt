@@ -8,15 +8,16 @@ use Rattle.float.specs.Claims.{NearestIs}
 use Rattle.float.specs.Float.{nearestFloat, nearestLimit}
 use Rattle.float.proofs.Closest.{nearest-is}
 use Rattle.float.proofs.NearestLaws.{nearest-of-zero}
-use Rattle.runfile.specs.Run.{recordsOf}
+use Rattle.tested.specs.Tested.{recordsOf}
 use Rattle.rules.specs.Choice.{AllOf}
 use Rattle.rules.specs.Rules.{refusal}
 use Rattle.rules.specs.declared.Sample.{Sample}
 use Rattle.exchange.specs.Claims.{Written, WrittenSpeeds, AllWritten, ImportNearest, NearestSpeeds, NearImported}
-use Rattle.exchange.specs.Import.{accepted, testedText, nearestRecord, importedFile, fileOf}
+use Rattle.import.specs.Import.{accepted, testedText, nearestRecord, importedFile, fileOf}
 use Rattle.exchange.proofs.ExportClaims.{exports-imported, imports-exported}
-use Rattle.exchange.proofs.ImportClaims.{sizes, accepted-text, imported, records-of, speed-back, import-reads}
-use Rattle.exchange.proofs.VersionLaws.{AllInRange}
+use Rattle.import.proofs.AcceptedLaws.{sizes, accepted-text, imported, speed-back}
+use Rattle.exchange.proofs.ImportClaims.{records-of, import-reads}
+use Rattle.csv.proofs.SampleLaws.{AllInRange}
 
 -- ════ A sample's floats ════
 

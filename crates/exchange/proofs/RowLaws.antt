@@ -7,18 +7,18 @@ use native.Mathlib.Omega.{arith}
 use lib.IntN.{ℤ, pos, natAbs}
 use lib.ListN.{length, drop, getD, drop-of-length-le}
 use lib.Seq.{drop-cons}
-use Rattle.text.specs.Number.{numberLimit}
-use Rattle.text.specs.Plain.{Plain}
-use Rattle.text.specs.declared.read.Number.{Number}
-use Rattle.text.specs.declared.read.Number.the-variants.{Is, Malformed}
-use Rattle.text.proofs.AgainLaws.{whole-again, knots-again, plain-signed, plain-knots}
-use Rattle.text.proofs.BackLaws.{whole-back, knots-back}
+use Rattle.numbers.specs.Number.{numberLimit}
+use Rattle.numbers.specs.Plain.{Plain}
+use Rattle.numbers.specs.declared.read.Number.{Number}
+use Rattle.numbers.specs.declared.read.Number.the-variants.{Is, Malformed}
+use Rattle.numbers.proofs.AgainLaws.{whole-again, knots-again, plain-signed, plain-knots}
+use Rattle.numbers.proofs.BackLaws.{whole-back, knots-back}
 use Rattle.text.proofs.TextLaws.{absent-signed, absent-knots}
 use Rattle.rules.specs.Choice.{AllOf}
 use Rattle.rules.specs.declared.Sample.{Sample}
 use Rattle.exchange.specs.Claims.{fewest, PlainFields}
 use Rattle.csv.specs.Csv.{Numbers, malformed, are, speeds, comma, quote, lf, numberIn, andThen, numbersOf, sampleFrom, numbersIn}
-use Rattle.exchange.specs.Export.{numberText, fieldTexts}
+use Rattle.export.specs.Export.{numberText, fieldTexts}
 use Rattle.exchange.proofs.JoinLaws.{Some, Field}
 
 -- each number is one that its text gives back

@@ -8,15 +8,18 @@ use borrow.Author.Tests.{eqb-true, eqb-false, eq-eqb}
 use lib.Dec.{eqb}
 use lib.ListN.{length}
 use Rattle.header.specs.Header.{headerSize, recordSize}
-use Rattle.runfile.specs.Run.{samplesIn, testedOf}
+use Rattle.tested.specs.Tested.{testedOf}
+use Rattle.runfile.specs.Run.{samplesIn}
 use Rattle.rules.specs.declared.Sample.{Sample}
 use Rattle.exchange.specs.Claims.{SameBytes, Imports, Exports, RoundTrips}
-use Rattle.exchange.specs.Export.{exportText, exportNeeds}
-use Rattle.exchange.specs.Import.{accepted, testedText, importedFile, neededBy, importNeeds, exchangedBy, leftBy}
-use Rattle.exchange.specs.declared.Exchanged.{Exchanged}
-use Rattle.exchange.specs.declared.Needed.{Needed}
+use Rattle.export.specs.Export.{exportText, exportNeeds}
+use Rattle.import.specs.Import.{accepted, testedText, importedFile, neededBy, importNeeds}
+use Rattle.csv.specs.Answer.{exchangedBy, leftBy}
+use Rattle.csv.specs.declared.Exchanged.{Exchanged}
+use Rattle.csv.specs.declared.Needed.{Needed}
 use Rattle.exchange.proofs.ExportClaims.{exports-imported, imports-exported, unrefused-file, same-bytes, samples-counted}
-use Rattle.exchange.proofs.ImportClaims.{taken, import-reads}
+use Rattle.import.proofs.AcceptedLaws.{taken}
+use Rattle.exchange.proofs.ImportClaims.{import-reads}
 
 -- ════ A call that is answered 0 ════
 

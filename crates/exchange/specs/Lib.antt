@@ -1,4 +1,1 @@
-pub mod Import
-pub mod Held
-pub mod Export
 pub mod Claims

@@ -1,6 +1,3 @@
-pub mod Patterns
-pub mod RoundTrip
-pub mod Starred
 pub mod RecordLaws
 pub mod RecordClaims
 pub mod ReadingLaws

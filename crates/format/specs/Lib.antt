@@ -1,5 +1,3 @@
-pub mod Record
 pub mod Refusal
 pub mod Reading
 pub mod Claims
-pub mod Starred

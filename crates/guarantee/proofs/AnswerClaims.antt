@@ -15,7 +15,7 @@ use Rattle.header.specs.Header.{versionIn}
 use Rattle.format.specs.Reading.{takenAs}
 use Rattle.header.specs.Words.{le32, bytes32}
 use Rattle.format.specs.Refusal.{sampleOf}
-use Rattle.format.specs.declared.Record.{Record}
+use Rattle.raw.specs.declared.Record.{Record}
 use Rattle.header.proofs.Digits.{four-back}
 use Rattle.host.specs.Demand3.{Call, Meets, acceptedOf, alertShown}
 use Rattle.host.proofs.Demand3.{demand-3}
@@ -25,13 +25,13 @@ use Rattle.rounding.proofs.Fits.{exact, minus, size-ge}
 use Rattle.runfile.specs.Run.{unsigned32, answerBytes}
 use Rattle.runfile.proofs.RunClaims.{all-accepted, runs-by-rules}
 use Rattle.runfile.proofs.RunLaws.{run-tested}
-use Rattle.unit.proofs.Claims.{AllAccepted}
+use Rattle.claims.proofs.Claims.{AllAccepted}
 use Rattle.rules.proofs.HeldShear.{shear-le}
 use Rattle.rules.proofs.RangeLaws.{in-range, none-after, frame-at-least}
-use Rattle.unit.specs.Claims.{accepted, shows}
+use Rattle.claims.specs.Claims.{accepted, shows}
 use Rattle.rules.specs.Rules.{frames, refusalAfter, change, held, redCondition, litFor, redFor, redLit, amberLit}
-use Rattle.unit.specs.Steps.{refusedOf}
-use Rattle.unit.specs.declared.Answer.{Answer}
+use Rattle.core.specs.Core.{refusedOf}
+use Rattle.core.specs.declared.Answer.{Answer}
 use Rattle.rules.specs.declared.Sample.{Sample}
 
 -- ════ The alert that the rules show, by the lamps ════

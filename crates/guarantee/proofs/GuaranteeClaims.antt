@@ -12,7 +12,7 @@ use Rattle.guarantee.specs.Guarantee.{TestRow, quietRows, alertRows, qui
 use Rattle.guarantee.proofs.WaveLaws.{entered, map-times, none-later, Ordered, ordered-times, covers, above, meets, row-meets, none-meets, order-meets, turned-meets}
 use Rattle.rounding.specs.Cut.{cut}
 use Rattle.rules.proofs.Choices.{both-true}
-use Rattle.unit.proofs.Follow.{not-zero}
+use Rattle.claims.proofs.Follow.{not-zero}
 use Rattle.rules.proofs.RangeLaws.{every-member}
 use Rattle.rules.specs.Choice.{anyOf, every}
 use Rattle.rules.specs.Rules.{frames, held, entryLimit, entry, entries, windows, metUp, metDown, inside, band, inBand, condition, redCondition, amberCondition, litFor, redFor, redLit, amberFor, amberLit}

@@ -10,11 +10,12 @@ use lib.IntN.{ℤ, pos, _-ℤ_}
 use lib.ListN.{length}
 use Rattle.guarantee.specs.Guarantee.{TestRow, alertRows, quietLimit, turned, ReachesRow, NoneAbove, AtLeast}
 use Rattle.header.specs.Words.{le32}
-use Rattle.format.specs.declared.Record.{Record}
+use Rattle.raw.specs.declared.Record.{Record}
 use Rattle.host.specs.Demand3.{Call, Meets, acceptedOf, alertShown}
 use Rattle.runfile.specs.Claims.{sampleAt, samplesBefore, tenAt, alertIn, alertBefore}
-use Rattle.runfile.specs.Run.{recordsOf, RunPromise}
-use Rattle.runfile.specs.declared.run.Outcome.{Outcome}
+use Rattle.tested.specs.Tested.{recordsOf}
+use Rattle.runfile.specs.Run.{RunPromise}
+use Rattle.tested.specs.declared.Outcome.{Outcome}
 use Rattle.rules.specs.Rules.{refusalAfter, held, entries, inBand, redCondition}
 use Rattle.rules.specs.declared.Sample.{Sample}
 

@@ -5,7 +5,7 @@ use borrow.Author.Tests.{eq-eqb}
 use Rattle.host.specs.Anew.{AllSummedAnew}
 use Rattle.host.specs.Demand3.{Call, acceptedOf}
 use Rattle.runfile.proofs.RunClaims.{runs-summed-anew}
-use Rattle.unit.proofs.Claims.{AllAccepted, accepted-all, list-answers}
+use Rattle.claims.proofs.Claims.{AllAccepted, accepted-all, list-answers}
 use Rattle.rules.specs.Rules.{refusalAfter}
 use Rattle.host.proofs.Demand3.{demand-3}
 

@@ -6,12 +6,12 @@ use lib.Dec.{eqb}
 use Rattle.host.specs.Demand3.{Form, plain, lent, Call, Promised, stateLeft, Meets, acceptedOf, alertShown, Demand3}
 use Rattle.host.specs.Lent.{LentPromise}
 use Rattle.runfile.proofs.RunClaims.{demand-3-run}
-use Rattle.unit.proofs.Claims.{states-pass, answers-by-rules, demand-3-lone}
+use Rattle.claims.proofs.Claims.{states-pass, answers-by-rules, demand-3-lone}
 use Rattle.unit.proofs.Promises.{plain-says}
-use Rattle.unit.specs.Claims.{stateAfter, answerTo, lastAlert, StatesPass, AnswersByRules, Demand3Lone}
+use Rattle.claims.specs.Claims.{stateAfter, answerTo, lastAlert, StatesPass, AnswersByRules, Demand3Lone}
 use Rattle.rules.specs.Rules.{refusalAfter}
 use Rattle.unit.specs.Steps.{offerOf, PlainPromise}
-use Rattle.unit.specs.declared.Answer.{Answer}
+use Rattle.core.specs.declared.Answer.{Answer}
 use Rattle.rules.specs.declared.Sample.{Sample}
 use Rattle.unit.specs.declared.State.{State}
 

@@ -1,11 +1,11 @@
 -- A9, whole: "Prove that every answer equals that of windows summed anew from a plain list of the entries, for any accepted samples from a fresh
--- start." It is of every history of calls, as demand 3 is, and of every accepted run. `listAnswer` (unit's Claims.antt) is the answer of a unit that
+-- start." It is of every history of calls, as demand 3 is, and of every accepted run. `listAnswer` (the crate `claims`) is the answer of a unit that
 -- keeps its entries in a plain list and sums every window anew.
 use mathlib.Core.List.{List, _∷_}
 use mathlib.Core.Path.{_≡_}
 use Rattle.host.specs.Demand3.{Call, Meets, acceptedOf}
 use Rattle.runfile.specs.Claims.{RunsSummedAnew}
-use Rattle.unit.specs.Claims.{listAnswer}
+use Rattle.claims.specs.Claims.{listAnswer}
 use Rattle.rules.specs.Rules.{refusalAfter}
 
 pub record AllSummedAnew : Type 0 where

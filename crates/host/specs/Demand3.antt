@@ -4,7 +4,7 @@
 -- table value plus 0.000005. If every average is below its table value by more than 0.000005, or the height is outside that band, a dark red lamp
 -- stays dark; it is dark at the start. The pitch command, whenever shown, is never above 27 degrees nor above that sample's stall-warning pitch. A
 -- refused sample counts for nothing in all this. The same holds at each record of every accepted run."
--- `Demand3At` (unit's Claims.antt) says what it asks at one accepted sample; 01, "The list in demand 3", says what a list is.
+-- `Demand3At` (the crate `claims`) says what it asks at one accepted sample; 01, "The list in demand 3", says what a list is.
 --
 -- The claim is over every history of calls, and knows of a call only what the function of its form promises: any answers and any states that meet
 -- the promises will do. So it is not a claim about a single call, nor about one way to meet the promises. Averages are of exact shears, unrounded,
@@ -18,10 +18,11 @@ use Prim.Native.Nat.{ℕ}
 use lib.Dec.{eqb}
 use Rattle.host.specs.Lent.{LentPromise}
 use Rattle.runfile.specs.Claims.{Demand3Run}
-use Rattle.unit.specs.Claims.{accepted, shows, Demand3At}
+use Rattle.claims.specs.Claims.{accepted, shows, Demand3At}
 use Rattle.rules.specs.Rules.{refusalAfter, windows}
-use Rattle.unit.specs.Steps.{freshState, passes, refusedOf, PlainPromise}
-use Rattle.unit.specs.declared.Answer.{Answer}
+use Rattle.core.specs.Core.{refusedOf}
+use Rattle.unit.specs.Steps.{freshState, passes, PlainPromise}
+use Rattle.core.specs.declared.Answer.{Answer}
 use Rattle.rules.specs.declared.Sample.{Sample}
 use Rattle.unit.specs.declared.State.{State}
 

@@ -6,23 +6,24 @@ ghost use lib.ListN.{length};
 ghost use Rattle.host.specs.Exported.{convertedNumbers};
 ghost use Rattle.host.specs.Lent.{LentPromise};
 ghost use Rattle.catalog.specs.Listing.{ListingPromise};
-ghost use Rattle.exchange.specs.Export.{exportNeeds, ExportPromise};
-ghost use Rattle.exchange.specs.Import.{importNeeds, ImportPromise};
+ghost use Rattle.export.specs.Export.{exportNeeds, ExportPromise};
+ghost use Rattle.import.specs.Import.{importNeeds, ImportPromise};
 ghost use Rattle.float.specs.Float.{convertedOf};
 ghost use Rattle.header.specs.Header.{writeHeaderRefusal, writtenHeader};
 ghost use Rattle.format.specs.Reading.{readingOf};
 ghost use Rattle.format.specs.Refusal.{writeRecordRefusal, writtenRecord};
-ghost use Rattle.runfile.specs.Run.{RunPromise, fileTestOf};
+ghost use Rattle.tested.specs.Tested.{fileTestOf};
+ghost use Rattle.runfile.specs.Run.{RunPromise};
 ghost use Rattle.unit.specs.Steps.{freshState, PlainPromise};
-use exchange::Exchanged;
-use exchange::Needed;
+use core::Answer;
+use csv::Exchanged;
+use csv::Needed;
 use float::Converted;
-use format::Record;
 use format::reading::Reading;
+use raw::Record;
 use rules::Sample;
-use runfile::run::FileTest;
-use runfile::run::Outcome;
-use unit::Answer;
+use tested::FileTest;
+use tested::Outcome;
 use unit::Offered;
 use unit::State;
 
@@ -104,7 +105,7 @@ pub extern "C" fn windshear_write_record(version: u32, record: Record, buf: &mut
 pub extern "C" fn windshear_test_file(file: &[u8]) -> FileTest
     ensures { λ r. ⌜ r ≡ fileTestOf (now (file .entry)) ⌝ }
 {
-    runfile::run::test_file(file)
+    tested::test_file(file)
 }
 
 // The record at a place, from 0, with its sample and whether its floats were exact; or why there is none to read: 1 to 6, 11 to 20, or 0 where the
@@ -137,7 +138,7 @@ pub extern "C" fn windshear_list(file: &[u8], listing: &mut [u8]) -> usize
 pub extern "C" fn windshear_import_length(text: &[u8]) -> Needed
     ensures { λ r. ⌜ r ≡ importNeeds (now (text .entry)) ⌝ }
 {
-    exchange::import::import_length(text)
+    import::import_length(text)
 }
 
 // The run file that a CSV text becomes; or the refusal with its place, and the buffer untouched.
@@ -145,7 +146,7 @@ pub extern "C" fn windshear_import_length(text: &[u8]) -> Needed
 pub extern "C" fn windshear_import(text: &[u8], file: &mut [u8]) -> Exchanged
     ensures { λ r. ⌜ ImportPromise (now (text .entry)) (now (file .entry)) r (now (file .exit)) ⌝ }
 {
-    exchange::import::import(text, file)
+    import::import(text, file)
 }
 
 // The exact length of the CSV text that a run file of version 1 becomes; or 1 to 6, 3 for any other version, or 11 to 20 with the first bad record's
@@ -154,7 +155,7 @@ pub extern "C" fn windshear_import(text: &[u8], file: &mut [u8]) -> Exchanged
 pub extern "C" fn windshear_export_length(file: &[u8]) -> Needed
     ensures { λ r. ⌜ r ≡ exportNeeds (now (file .entry)) ⌝ }
 {
-    exchange::export::export_length(file)
+    export::export_length(file)
 }
 
 // The CSV text that a run file of version 1 becomes; or the refusal with its place, and the buffer untouched.
@@ -162,5 +163,5 @@ pub extern "C" fn windshear_export_length(file: &[u8]) -> Needed
 pub extern "C" fn windshear_export(file: &[u8], text: &mut [u8]) -> Exchanged
     ensures { λ r. ⌜ ExportPromise (now (file .entry)) (now (text .entry)) r (now (text .exit)) ⌝ }
 {
-    exchange::export::export(file, text)
+    export::export(file, text)
 }

@@ -1,8 +1,2 @@
 pub mod TextLaws
 pub mod WriteCases
-pub mod DigitLaws
-pub mod SizeLaws
-pub mod BackLaws
-pub mod AgainLaws
-pub mod AbsentLaws
-pub mod NumberCases

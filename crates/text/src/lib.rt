@@ -1,3 +1,2 @@
-// Numbers as text: written into a lent buffer, and read from one (01, "The listing"; 02, A3).
-pub mod read;
+// Numbers as text, written into a lent buffer (01, "The listing"; 02, A3).
 pub mod write;

@@ -16,10 +16,11 @@ use lib.Signed.{leZ, leZ-yes, ≤ℤ-refl}
 use Rattle.rounding.specs.Fraction.{sumℤ}
 use Rattle.rounding.proofs.Difference.{any, +D, -D, eqD, ofLe}
 use Rattle.rules.specs.Choice.{same}
-use Rattle.unit.specs.Claims.{HoldsList, EnterHolds, FitsHolds}
+use Rattle.unit.specs.Holds.{HoldsList, EnterHolds, FitsHolds}
 use Rattle.rules.specs.Rules.{lastOf, windowSum}
 use Rattle.windows.specs.Ring.{readFrom, backOf, movedOf, movedSums, sumsOf, sameSums}
-use Rattle.unit.specs.Steps.{framesOf, entryOf, coreAt, pushOf, pushTimes, coreWith, windowsOf, lampsOf, voiceOf, pitchOf, shownBy, acceptOf, freshCore, freshState, entryFits, heldFits, ringFits, RingValid}
+use Rattle.core.specs.Core.{framesOf, entryOf, coreAt, coreWith, lampsOf, voiceOf, pitchOf, shownBy, freshCore}
+use Rattle.unit.specs.Steps.{pushOf, pushTimes, windowsOf, acceptOf, freshState, entryFits, heldFits, ringFits, RingValid}
 use Rattle.rules.specs.declared.Sample.{Sample}
 use Rattle.unit.specs.declared.State.{State}
 use Rattle.windows.specs.declared.Sums.{Sums}

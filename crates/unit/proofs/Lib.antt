@@ -3,8 +3,3 @@ pub mod Promises
 pub mod Holding
 pub mod ValidLaws
 pub mod StepLaws
-pub mod Follow
-pub mod Averages
-pub mod Claims
-pub mod ComingOn
-pub mod Turned

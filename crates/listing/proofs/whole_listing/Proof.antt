@@ -10,13 +10,13 @@ use lib.Dec.{eqb}
 use lib.ListN.{length, take}
 use lib.Seq.{take-append-seam}
 use Rattle.io.proofs.Counting.{counts}
-use Rattle.runfile.specs.Run.{testedOf}
+use Rattle.tested.specs.Tested.{testedOf}
 use Rattle.catalog.specs.Listing.{listingOf, roomOf, listedSize, listedIn}
 use Rattle.catalog.proofs.ListingLaws.{room-good, room-refused, size-fits}
 use Rattle.text.specs.Text.{written}
 use Rattle.header.specs.Header.{versionIn}
 use Rattle.header.proofs.Versions.{most-le}
-use Rattle.runfile.proofs.RunLaws.{accepted-file}
+use Rattle.tested.proofs.TestedLaws.{accepted-file}
 use Rattle.listing.proofs.whole_listing.Statement.{statement}
 use Rattle.listing.proofs.whole_listing.Tie as tie
 

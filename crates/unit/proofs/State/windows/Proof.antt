@@ -1,4 +1,4 @@
--- `unit::State::windows` meets its contract: what the core's method ensures.
+-- `unit::State::windows` meets its contract: what `entered` ensures.
 use mathlib.Core.Path.{_∙_}
 use borrow.Author.Needs.{needs}
 use mir.Facts.{toZ-ofZ}

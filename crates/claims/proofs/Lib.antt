@@ -1,0 +1,5 @@
+pub mod Follow
+pub mod Averages
+pub mod Claims
+pub mod ComingOn
+pub mod Turned

@@ -1,0 +1,2 @@
+// Numbers from text, read from a lent buffer (02, A3).
+pub mod read;
