@@ -8,7 +8,7 @@ ghost use Rattle.alerts.specs.Counters.{GuideValid, no_guide, started_of, contin
 use rules::Sample;
 
 // Guidance: count is 0 while it is off, else one more than the frames in a row that have counted towards its end.
-#[derive(Drop)]
+#[derive(Clone, Copy)]
 pub struct Guide {
     pub count: u16,
     pub command: i32,

@@ -1,3 +1,5 @@
 // The run file's format: records as samples, read and written (01, "The run file").
+#![tactic(auto)]
+
 pub mod reading;
 pub mod records;

@@ -1,4 +1,6 @@
 // Frames elapsed between two numbers of 16 bits that go round, and how many a sample may stand for (02, A6).
+#![tactic(auto)]
+
 ghost use Rattle.std.specs.Prelude.{◌≡◌};
 ghost use Rattle.frames.specs.Frames.{elapsed, frames_fit};
 

@@ -1,4 +1,6 @@
 // The unit, run files, their listings and CSV text for programs in other languages: C functions in a static library.
+#![tactic(auto)]
+
 ghost use Rattle.std.specs.Prelude.{◌≡◌, length};
 ghost use Rattle.std.specs.Float.Ieee as Ieee;
 ghost use Rattle.std.specs.Float.{binary32};
@@ -27,7 +29,7 @@ use unit_core::Answer;
 // The hundredths of a finite float, cut at a million either way: finite is 1; exact is 1 where 100 times its exact value is a whole number; cut is 1
 // where the rounded hundredths are beyond a million either way. Where it is not finite all is 0.
 #[repr(C)]
-#[derive(Drop)]
+#[derive(Clone, Copy)]
 pub struct ConvertedFloat {
     pub finite: u16,
     pub exact: u16,

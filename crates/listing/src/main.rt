@@ -1,5 +1,7 @@
 // Lists one run file from standard input (01, "The listing"). At most 65,009 bytes are read (02, A6), one more than the longest run has.
 // Where a run can't be read or its listing can't be written, it says so in one line on standard error: a fault is no verdict on the file.
+#![tactic(auto)]
+
 ghost use Rattle.std.specs.Prelude.{◌≡◌, length, take};
 ghost use Rattle.io.specs.Counts.{IsPrefixLen};
 ghost use Rattle.catalog.specs.Listing.{listing_of, most_read};
@@ -14,7 +16,7 @@ const ROOM: usize = 64 * (header::MOST + 2);
 const MOST_READ: usize = header::SIZE + record::SIZE_2 * header::MOST_2 + 1;
 
 // How many bytes were read, and whether a read failed before the input's end.
-#[derive(Drop)]
+#[derive(Clone, Copy)]
 struct Input {
     length: usize,
     failed: bool,

@@ -6,14 +6,14 @@ ghost use Rattle.numbers.specs.Number.{digits_from, whole_size, knots_size, cut_
 const LIMIT: u32 = 1000000;
 
 // A number without its sign.
-#[derive(Drop)]
+#[derive(Clone, Copy)]
 pub enum Size {
     Of(u32),
     Bad,
 }
 
 // What a field's text is answered.
-#[derive(Drop)]
+#[derive(Clone, Copy)]
 pub enum Number {
     Is(i32),
     Malformed,

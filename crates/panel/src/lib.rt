@@ -1,4 +1,6 @@
 // The rounding as a C function of its own, for whoever tries what the wall panel says (docs/rounding.md).
+#![tactic(auto)]
+
 ghost use Rattle.std.specs.Prelude.{◌≡◌};
 ghost use Rattle.rounding.specs.Rounding.{round_away};
 

@@ -1,4 +1,6 @@
 // One rule: a fraction to the nearest whole number, ties away from zero (01, "Shear"); and a number cut at a bound either way (02, A1).
+#![tactic(auto)]
+
 ghost use Rattle.std.specs.Prelude.{◌≡◌, ◌≤◌, ◌^◌, pos, neg_ℤ, nat_abs};
 ghost use Rattle.rounding.specs.Cut.{cut};
 ghost use Rattle.rounding.specs.Rounding.{round_away};

@@ -1,4 +1,6 @@
 // A sample (01, "A sample"), what refuses it and its shear; specs/Rules.antt has the rules over a list of them.
+#![tactic(auto)]
+
 ghost use Rattle.std.specs.Prelude.{◌≡◌};
 ghost use Rattle.rules.specs.Rules.{refusal};
 
@@ -8,7 +10,7 @@ pub mod shear;
 // One sample, in the units of 01's table; it stands for one or more of the twenty frames of a second (02, A6). A field holds any value that a caller
 // may send.
 #[repr(C)]
-#[derive(Drop)]
+#[derive(Clone, Copy)]
 pub struct Sample {
     pub along: i32,
     pub vertical: i32,

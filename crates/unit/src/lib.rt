@@ -1,4 +1,6 @@
 // The windshear unit, a state in and a state out (01, "A sample" to "Escape pitch").
+#![tactic(auto)]
+
 ghost use Rattle.std.specs.Prelude.{◌≡◌, true, ◌≤◌};
 ghost use Rattle.alerts.specs.Counters.{GuideValid};
 ghost use Rattle.unit_core.specs.Core.{frames_of, lamps_of, voice_of, guide_of, pitch_of};
@@ -14,21 +16,21 @@ use unit_core::{Answer, Core};
 // The unit's state: the last two hundred entries (held shears, cut) as a ring, the newest at the core's place and each older one a place on, round;
 // and the core.
 #[repr(C)]
-#[derive(Drop)]
+#[derive(Clone, Copy)]
 pub struct State {
     pub held: [i32; 200],
     pub core: Core,
 }
 
 #[repr(C)]
-#[derive(Drop)]
+#[derive(Clone, Copy)]
 pub struct Offered {
     pub answer: Answer,
     pub state: State,
 }
 
 // What an accepted sample of a run is answered, and the core after it; its ring is lent.
-#[derive(Drop)]
+#[derive(Clone, Copy)]
 pub struct Stepped {
     pub answer: Answer,
     pub core: Core,

@@ -1,4 +1,6 @@
 // The core: what the unit keeps beside the ring's entries, and what a sample does to it (01, "A sample" to "Escape pitch").
+#![tactic(auto)]
+
 ghost use Rattle.std.specs.Prelude.{◌≡◌, true, ◌≤◌, nat_abs};
 ghost use Rattle.alerts.specs.Counters.{GuideValid};
 ghost use Rattle.unit_core.specs.Core.{fresh_core, frames_of, shear_of, lamps_of, voice_of, guide_of, pitch_of, answer_of};
@@ -13,7 +15,7 @@ use windows::Sums;
 
 // What the unit keeps from sample to sample, beside the ring's entries. A field may hold any value; refusal 8 has the limits.
 #[repr(C)]
-#[derive(Drop)]
+#[derive(Clone, Copy)]
 pub struct Core {
     // each window's running sum
     pub sums: Sums,
@@ -39,7 +41,7 @@ pub struct Core {
 
 // What a sample is answered. `refusal` is 0 where it was accepted; else it is the first number that fits, and the other fields are 0.
 #[repr(C)]
-#[derive(Drop)]
+#[derive(Clone, Copy)]
 pub struct Answer {
     pub refusal: u16,
     // 0 none, 1 amber, 2 red

@@ -1,4 +1,6 @@
 // The windows: a ring of the last two hundred entries, and a running sum for each window (01, "The six windows"; 02, A1 and A9).
+#![tactic(auto)]
+
 ghost use Rattle.std.specs.Prelude.{◌≡◌, ◌||◌, ◌*◌, ◌≤◌, ◌<◌, nat_abs, length, set, take};
 ghost use Rattle.rounding.specs.Cut.{cut};
 ghost use Rattle.rounding.specs.Fraction.{sum_ℤ};
@@ -10,7 +12,7 @@ use rules::ranges::both;
 
 // The sums of the six windows, the longest first.
 #[repr(C)]
-#[derive(Drop)]
+#[derive(Clone, Copy)]
 pub struct Sums {
     pub s200: i64,
     pub s180: i64,

@@ -1,5 +1,7 @@
 // The text of a listing in a lent buffer. Each function writes its text at a place and returns the place after it; the rest stays.
 // A `requires` asks room for the longest text.
+#![tactic(auto)]
+
 ghost use Rattle.std.specs.Prelude.{◌++◌, ◌+◌, ◌≤◌, length};
 ghost use Rattle.words.specs.Text.{line_feed, alert_word, command_text, float_word, header_text, line_text, total_text, refused_text};
 ghost use Rattle.text.specs.Text.{decimal, Wrote};
