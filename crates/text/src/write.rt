@@ -1,7 +1,7 @@
 // Texts in a lent buffer. Each function writes its text at a place and returns the place after it; the rest stays.
 // A `requires` asks room for the text and no more (`sign` asks for one byte: a number has a digit), so that a buffer may be as long as its text.
 ghost use Rattle.std.specs.Prelude.{cond, [], ◌∷◌, ◌≡◌, ◌+◌, ◌<◌, ◌≤◌, nat_abs, length};
-ghost use Rattle.text.specs.Text.{ascii, digit as digitText, decimal, signed as signedText, knots as knotsText, Wrote};
+ghost use Rattle.text.specs.Text.{ascii, digit as digit_text, decimal, signed as signed_text, knots as knots_text, Wrote};
 
 pub fn byte(out: &mut [u8], at: usize, b: u8) -> usize
     requires { at < length out.old }
@@ -27,7 +27,7 @@ pub fn word(out: &mut [u8], at: usize, w: &[u8]) -> usize
 fn digit(out: &mut [u8], at: usize, n: u32) -> usize
     requires n_bound { n < 10 }
     requires at_in_bounds { at < length out.old }
-    ensures { Wrote out.old at (digitText n) result out.new }
+    ensures { Wrote out.old at (digit_text n) result out.new }
 {
     byte(out, at, b'0' + n as u8)
 }
@@ -65,8 +65,8 @@ fn sign(out: &mut [u8], at: usize, negative: bool) -> usize
 }
 
 pub fn signed(out: &mut [u8], at: usize, x: i32) -> usize
-    requires { at + length (signedText x) ≤ length out.old }
-    ensures { Wrote out.old at (signedText x) result out.new }
+    requires { at + length (signed_text x) ≤ length out.old }
+    ensures { Wrote out.old at (signed_text x) result out.new }
 {
     let n = size_of(x);
     let p = sign(out, at, x < 0);
@@ -75,8 +75,8 @@ pub fn signed(out: &mut [u8], at: usize, x: i32) -> usize
 
 // So many hundredths of a knot.
 pub fn knots(out: &mut [u8], at: usize, x: i32) -> usize
-    requires { at + length (knotsText x) ≤ length out.old }
-    ensures { Wrote out.old at (knotsText x) result out.new }
+    requires { at + length (knots_text x) ≤ length out.old }
+    ensures { Wrote out.old at (knots_text x) result out.new }
 {
     let n = size_of(x);
     let a = sign(out, at, x < 0);

@@ -1,0 +1,20 @@
+-- `alerts::pitch::smaller` meets its contract: the parameters as they are read back are themselves.
+use mir.Facts.{to_z-of_z}
+use Rattle.rules.specs.Choice.{smaller}
+use Rattle.alerts.proofs.pitch.smaller.Goals as goal
+
+pub returns-then-a-b : goal.returns-then-a-b
+unfolding smaller
+returns-then-a-b c =
+    let a = c.before.ranges.a in
+    let b = c.before.ranges.b in
+    let t = simp to_z-of_z at c.if-a-b.true in
+    simp (to_z-of_z, t)
+
+pub returns-else-a-b : goal.returns-else-a-b
+unfolding smaller
+returns-else-a-b c =
+    let a = c.before.ranges.a in
+    let b = c.before.ranges.b in
+    let t = simp to_z-of_z at c.if-a-b.false in
+    simp (to_z-of_z, t)

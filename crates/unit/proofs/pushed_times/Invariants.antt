@@ -1,0 +1,14 @@
+use mathlib.Core.Bool.{true}
+use mathlib.Core.Path.{◌≡◌}
+use Prim.Native.Nat.{◌-◌, ◌≤◌}
+use mir.Syntax.{w32}
+use mir.Val.{to_z}
+use Rattle.unit.specs.Steps.{beside, entry_fits, push_times, RingValid}
+use Rattle.unit.proofs.pushed_times.Given as goal
+
+abbrev pub invariant-loop-i : goal.invariant-loop-i
+invariant-loop-i l =
+    (l.i ≤ l.n) × (entry_fits (to_z w32 l.entry) ≡ true) × RingValid (beside l.held l.c) × (beside l.held l.c ≡ push_times l.i (beside l.initial.held l.initial.c) (to_z w32 l.entry))
+
+abbrev pub decreases-loop-i : goal.decreases-loop-i
+decreases-loop-i l = l.n - l.i
