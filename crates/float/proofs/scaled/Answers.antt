@@ -6,6 +6,7 @@ use native.Mathlib.Omega.{arith}
 use borrow.Author.Rules.{rules}
 use lib.IntN.{ℤ}
 use lib.Pow.{pow-lt}
+use mir.Syntax.{w64}
 use mir.Facts.{to_z-of_z}
 use Rattle.rounding.specs.Rounding.{round_away}
 use Rattle.float.specs.Float.{cut_off}

@@ -5,7 +5,7 @@ use Rattle.rules.proofs.ranges.field.Goals as goal
 
 pub returns : goal.returns
 returns c =
-    let fits = c.before.before.fits in
+    let fits = c.before.before.ranges in
     let l = fits.lo in
     let x = fits.x in
     let h = fits.hi in

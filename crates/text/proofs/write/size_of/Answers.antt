@@ -45,4 +45,3 @@ pub overflow_cast-result-2 : goal.overflow_cast-result-2
 overflow_cast-result-2 c =
     rw (to_z-of_z c.before.ranges.x, natural c.before.args.x (rw (to_z-of_z c.before.ranges.x) at c.if-x-lt0.false))
     (tt, record { fits = omega (arith, c.before.ranges.x.sfits) })
-
