@@ -9,7 +9,7 @@ use native.Mathlib.Omega.{arith}
 use lib.Dec.{T, eqb, lit<}
 use lib.IntN.{ℤ, pos, negsuc, nat_abs, ◌-ℤ◌, ◌*ℤ◌}
 use lib.Pow.{pow_pos}
-use lib.Ieee.{Float, fin, binary32, up, down, round, eq, ne, fits}
+use lib.Ieee.{Float, nan, inf, fin, binary32, up, down, round, eq, ne, fits}
 use lib.Ieee.Exact.{HasValue}
 use lib.Ieee.Fits.{down_pos, and_i, eq→eqb}
 use lib.Ieee.Scale.{finite}
@@ -61,6 +61,10 @@ signs (negsuc n) false = inr (λ a c. omega (arith, size_off (-D (*D (nat a) (na
 -- floats by their values in parts of P: the nearer one
 nearer : (h : ℤ) (x y : Float) (s t : Bool) (a b P : ℕ) → HasValue x s a P → HasValue y t b P → miss h s a P < miss h t b P → distance h x <F distance h y
 unfolding distance
+nearer h nan y s t a b P p q l = elim p [ ]
+nearer h (inf _) y s t a b P p q l = elim p [ ]
+nearer h (fin u m e) nan s t a b P p q l = elim q [ ]
+nearer h (fin u m e) (inf _) s t a b P p q l = elim q [ ]
 nearer h (fin u m e) (fin v n d) s t a b P p q l =
     let i = miss h u (m * up e) (down e) in
     let j = miss h v (n * up d) (down d) in
@@ -80,6 +84,10 @@ nearer h (fin u m e) (fin v n d) s t a b P p q l =
 -- and two of one value, which are equal if their signs are or the value is 0
 equal : (x y : Float) (s t : Bool) (a P : ℕ) → 0 < P → HasValue x s a P → HasValue y t a P → (s ≡ t) ⊎ (a ≡ 0) → T (eq x y)
 unfolding eq
+equal nan _ s t a P p x y c = elim x [ ]
+equal (inf _) _ s t a P p x y c = elim x [ ]
+equal (fin u m e) nan s t a P p x y c = elim y [ ]
+equal (fin u m e) (inf _) s t a P p x y c = elim y [ ]
 equal (fin u m e) (fin v n d) s t a P p x y c =
     let l : m * up e * down d * P ≡ a * down e * down d = mul_right_comm (m * up e) (down d) P ∙ ap (λ (z : ℕ). z * down d) x.1 in
     let r : n * up d * down e * P ≡ a * down e * down d = mul_right_comm (n * up d) (down e) P ∙ ap (λ (z : ℕ). z * down e) y.1 ∙ mul_right_comm a (down d) (down e) in
