@@ -184,6 +184,7 @@ module _ (l : List Sample) (ok : AllPositive (entries exact l)) where
   -- some window of a table reaches its value: some window is met; all lie below: none is
   pub table_met : (table : List Window) (w : Window) → Memᴰ w table → Reaches l w → any_of (met_up (entries entry l)) table ≡ true
   unfolding any_of
+  table_met [] w m h = elim m [ ]
   table_met (x ∷ table) w (Memᴰ.head e) h = rw (ap (met_up (entries entry l)) (sym e) ∙ reached_met w h)
   table_met (x ∷ table) w (Memᴰ.tail m) h = rw (table_met table w m h) (or-true (met_up (entries entry l) x))
     where
