@@ -1,6 +1,5 @@
 -- `windows::back` meets its contract.
 use mathlib.Core.Path.{sym, ap}
-use borrow.Author.Rules.{rules}
 use lib.Dec.{lit<}
 use Rattle.windows.specs.Ring.{back_of}
 use Rattle.rules.proofs.Tests.{tests}

@@ -1,6 +1,5 @@
 -- `windows::entry` meets its contract: the shear is widened, cut, and narrowed again, which what is cut allows.
 use mathlib.Core.Path.{◌≡◌, ap, ◌∙◌}
-use borrow.Author.Rules.{rules}
 use lib.Dec.{lit<}
 use mir.Syntax.{w32, w64}
 use mir.Val.{to_z, of_z}

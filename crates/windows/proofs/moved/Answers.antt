@@ -24,18 +24,17 @@ gained k = plus (kept w64 (exact k.args.sum k.requires.0) (lit< tt)) (kept w64 (
 
 -- and less what leaves
 abbrev leaves : After-result-1 → ℤ
-leaves c = get_or c.before.before.args.held.now c.before.on-j.result-1 (pos 0)
+leaves c = get_or c.args.held.now c.on-j.result (pos 0)
 
 element : (c : After-result-1) → Holds (to_z w32 (of_z w32 (leaves c))) (leaves c) (2 ^ 31)
-element c = read w32 (record { sfits = c.result-1.given })
+element c = read w32 (search rules)
 
 all : (c : After-result-1)
-    → let k = c.before.before in
-    Holds (to_z w64 (of_z w64 (to_z w64 (of_z w64 k.args.sum) +ℤ wide k.args.x)) -ℤ wide (leaves c)) ((k.args.sum +ℤ k.args.x) -ℤ leaves c) (10000000000 + 2 ^ 31 + 2 ^ 31)
+    → Holds (to_z w64 (of_z w64 (to_z w64 (of_z w64 c.args.sum) +ℤ wide c.args.x)) -ℤ wide (leaves c)) ((c.args.sum +ℤ c.args.x) -ℤ leaves c) (10000000000 + 2 ^ 31 + 2 ^ 31)
 all c = minus (kept w64 (gained c.before.before) (lit< tt)) (kept w64 (element c) (lit< tt))
 
 pub overflow_cast-result : goal.overflow_cast-result
-overflow_cast-result c = sfits w64 (read w32 c.before.ranges.x) (lit< tt)
+overflow_cast-result c = sfits w64 (read w32 c.ranges.x) (lit< tt)
 
 pub overflow_add-result : goal.overflow_add-result
 overflow_add-result c = sfits w64 (gained c.before) (lit< tt)
@@ -49,10 +48,9 @@ overflow_sub-result c = sfits w64 (all c) (lit< tt)
 pub returns : goal.returns
 unfolding moved_of
 returns c =
-    let k = c.before.before in
-    let held = k.args.held.now in
-    let before : k.args.n - 1 < 200 = omega (arith, k.requires.2, k.requires.3) in
-    let oldest : c.before.on-j.result-1 ≡ on_of k.args.p (k.args.n - 1) = c.before.on-j.ensures.0 in
+    let held = c.args.held.now in
+    let before : c.args.n - 1 < 200 = omega (arith, c.requires.2, c.requires.3) in
+    let oldest : c.on-j.result ≡ on_of c.args.p (c.args.n - 1) = c.on-j.ensures.0 in
     (kept w64 (all c) (lit< tt)).is
-    ∙ ap (λ (x : ℤ). (k.args.sum +ℤ k.args.x) -ℤ x)
-    (ap (λ (i : ℕ). get_or held i (pos 0)) oldest ∙ sym (read_at held k.args.p (k.args.n - 1) k.requires.4 k.requires.1 before))
+    ∙ ap (λ (x : ℤ). (c.args.sum +ℤ c.args.x) -ℤ x)
+    (ap (λ (i : ℕ). get_or held i (pos 0)) oldest ∙ sym (read_at held c.args.p (c.args.n - 1) c.requires.4 c.requires.1 before))

@@ -2,14 +2,12 @@ use mathlib.Core.Path.{◌≡◌}
 use Prim.Native.Nat.{◌-◌, ◌*◌, ◌≤◌}
 use lib.IntN.{nat_abs}
 use lib.ListN.{take}
-use mir.Syntax.{w64}
-use mir.Val.{to_z}
 use Rattle.rounding.specs.Fraction.{sum_ℤ}
 use Rattle.windows.specs.Ring.{read_from}
 use Rattle.windows.proofs.sum_on.Given as goal
 
 abbrev pub invariant-loop-i : goal.invariant-loop-i
-invariant-loop-i l = (l.i ≤ l.n) × (to_z w64 l.sum ≡ sum_ℤ (take l.i (read_from l.p l.held))) × (nat_abs (sum_ℤ (take l.i (read_from l.p l.held))) ≤ l.i * 2147483648)
+invariant-loop-i l = (l.i ≤ l.n) × (l.sum ≡ sum_ℤ (take l.i (read_from l.p l.held))) × (nat_abs (sum_ℤ (take l.i (read_from l.p l.held))) ≤ l.i * 2147483648)
 
 abbrev pub decreases-loop-i : goal.decreases-loop-i
 decreases-loop-i l = l.n - l.i

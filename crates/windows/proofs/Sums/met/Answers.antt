@@ -11,14 +11,10 @@ use Rattle.windows.specs.Ring.{sum_list, reached, some_reached, met_of}
 use Rattle.windows.specs.declared.Sums.{Sums}
 use Rattle.windows.proofs.WindowLaws.{SumsFit}
 use Rattle.windows.proofs.Sums.met.Goals as goal
-use Rattle.windows.proofs.Sums.met.Goals.{After-struct_told-1}
 
 -- a test of a sum as it is read back
 abbrev test : Window → Bool → ℤ → Bool
 test w up x = reached up w (to_z w64 (of_z w64 x))
-
-fit : (k : After-struct_told-1) → SumsFit k.before.args.self
-fit k = search rules
 
 -- each test's answer is the other of the next
 chain : (up : Bool) (s : Sums) {a b c d e f : Bool} → SumsFit s
@@ -34,11 +30,5 @@ chain up s h p q r t u v = cc (to_z-of_z h.s100, to_z-of_z h.s120, to_z-of_z h.s
 
 pub returns : goal.returns
 returns c =
-    let c5 = c.before.before in
-    let c4 = c5.before.before in
-    let c3 = c4.before.before in
-    let c2 = c3.before.before in
-    let c1 = c2.before.before in
-    let k = c1.before.before.args in
-    chain k.up k.self (fit c1.before)
-    c1.reaches-m100.ensures c2.reaches-m120.ensures c3.reaches-m140.ensures c4.reaches-m160.ensures c5.reaches-m180.ensures c.reaches.ensures
+    chain c.args.up c.args.self (search rules)
+    c.reaches-m100.ensures c.reaches-m120.ensures c.reaches-m140.ensures c.reaches-m160.ensures c.reaches-m180.ensures c.reaches.ensures
