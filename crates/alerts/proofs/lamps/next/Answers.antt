@@ -1,5 +1,4 @@
 -- `alerts::lamps::next` meets its contract, branch by branch.
-use borrow.Author.Rules.{rules}
 use Rattle.rules.proofs.Tests.{tests}
 use Rattle.alerts.specs.Counters.{lamp_next}
 use Rattle.alerts.proofs.lamps.next.Goals as goal

@@ -1,5 +1,4 @@
 -- `alerts::pitch::counted` meets its contract, branch by branch.
-use borrow.Author.Rules.{rules}
 use Rattle.rules.specs.Rules.{counted}
 use Rattle.alerts.proofs.pitch.counted.Goals as goal
 

@@ -1,5 +1,4 @@
 -- `alerts::voice::cycle` meets its contract, branch by branch.
-use borrow.Author.Rules.{rules}
 use Rattle.rules.proofs.Tests.{tests}
 use Rattle.rules.specs.Rules.{cycle}
 use Rattle.alerts.proofs.voice.cycle.Goals as goal

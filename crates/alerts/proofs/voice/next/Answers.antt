@@ -1,5 +1,4 @@
 -- `alerts::voice::next` meets its contract, branch by branch.
-use borrow.Author.Rules.{rules}
 use Rattle.rules.proofs.Tests.{tests}
 use Rattle.alerts.specs.Counters.{voice_next}
 use Rattle.alerts.proofs.voice.next.Goals as goal
