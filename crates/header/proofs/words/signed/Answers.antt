@@ -1,7 +1,6 @@
 -- `header::words::signed` meets its contract: from 32,768 on, 65,536 less fits 16 bits with a sign.
 use mathlib.Core.Path.{◌≡◌, sym, ◌∙◌}
 use native.Mathlib.Omega.{arith}
-use borrow.Author.Rules.{rules}
 use borrow.Author.Tests.{lt-ltb, le-ltb}
 use lib.IntN.{pos, ◌-ℤ◌}
 use mir.Syntax.{w16, w32}
@@ -20,7 +19,7 @@ fits : (c : Else-n-lt32768) → SFits w16 (pos c.before.args.n -ℤ pos 65536)
 fits c = less_fits c.before.args.n c.if-n-lt32768.false c.before.ranges.n.fits
 
 kept : (c : Else-n-lt32768) → to_z w32 (of_z w32 (to_z w32 c.before.args.n -ℤ pos 65536)) ≡ pos c.before.args.n -ℤ pos 65536
-kept c = rw (wide c) (to_z-of_z (sfits_widen tt (fits c)))
+kept c = rw (wide c) (to_z-of_z {w = w32} (sfits_widen {w = w16} {w' = w32} (tt {0}) (fits c)))
 
 pub overflow_sub-result : goal.overflow_sub-result
 overflow_sub-result c = rw (wide c) (sfits_widen tt (fits c))
