@@ -1,6 +1,5 @@
 -- `raw::float_at` meets its contract.
 use mathlib.Core.Path.{ap, ◌∙◌}
-use borrow.Author.Rules.{rules}
 use Rattle.raw.specs.Record.{float_of}
 use Rattle.raw.proofs.float_at.Goals as goal
 
