@@ -1,5 +1,4 @@
 -- `write::digit` meets its contract: what `byte` leaves.
-use borrow.Author.Rules.{rules}
 use Rattle.text.specs.Text.{digit}
 use Rattle.text.proofs.write.digit.Goals as goal
 

@@ -3,7 +3,6 @@ use mathlib.Core.List.{List, ◌++◌, append_assoc}
 use mathlib.Core.Path.{◌≡◌, ap, ◌∙◌}
 use Prim.Native.Nat.{ℕ, ◌+◌, ◌/◌, ◌%◌}
 use native.Mathlib.Omega.{arith}
-use borrow.Author.Rules.{rules}
 use lib.IntN.{nat_abs}
 use lib.ListN.{length}
 use mir.Facts.{to_z-of_z}
@@ -83,15 +82,15 @@ pub byte-c-requires : goal.byte-c-requires
 byte-c-requires c = omega (arith, room (after2 c.before.before.before))
 
 pub digit-d-requires : goal.digit-d-requires
-digit-d-requires c = (omega arith, omega (arith, room (after3 c.before.before.before)))
+digit-d-requires c = record { n_bound = omega arith; at_in_bounds = omega (arith, room (after3 c.before.before.before)) }
 
 pub digit-requires : goal.digit-requires
-digit-requires c = (omega arith, omega (arith, room (after4 c.before.before.before)))
+digit-requires c = record { n_bound = omega arith; at_in_bounds = omega (arith, room (after4 c.before.before.before)) }
 
 pub returns : goal.returns
 unfolding knots hundredths digit
 returns c =
-    let d = c.before.before.before.before.before.before in
+    let d = c.before.before.before.before.before.before.before in
     let s = from1 (sign4 d) in
-    let all = last (digit (n s % 10)) (after4 d) (omega arith) (rw (size (sign4 d)) at c.before.before.digit.ensures) in
+    let all = last (digit (n s % 10)) (after4 d) (omega arith) (rw (size (sign4 d)) at c.digit.ensures) in
     rw (signed_by_lem hundredths s.args.x) (simp append_assoc at all)

@@ -1,6 +1,5 @@
 -- `write::sign` meets its contract, by the two cases.
 use native.Mathlib.Omega.{arith}
-use borrow.Author.Rules.{rules}
 use Rattle.text.proofs.TextLaws.{nothing}
 use Rattle.text.proofs.write.sign.Goals as goal
 

@@ -1,7 +1,6 @@
 -- `write::signed` meets its contract: the sign, then the size.
 use mathlib.Core.Path.{◌≡◌, ap, ◌∙◌}
 use native.Mathlib.Omega.{arith}
-use borrow.Author.Rules.{rules}
 use lib.IntN.{nat_abs}
 use lib.ListN.{length}
 use mir.Facts.{to_z-of_z}
@@ -36,6 +35,6 @@ number-requires c = rw (size c.before.before.before) (room (after c.before.befor
 pub returns : goal.returns
 unfolding signed
 returns c =
-    let k = c.before.before.before.before.before.before in
+    let k = c.before.before.before.before.before.before.before in
     let x = (from k).args.x in
-    rw (signed_by_lem decimal x) (last (decimal (nat_abs x)) (after k) (omega arith) (rw (size k) at c.before.before.number.ensures))
+    rw (signed_by_lem decimal x) (last (decimal (nat_abs x)) (after k) (omega arith) (rw (size k) at c.number.ensures))

@@ -1,12 +1,11 @@
 -- `write::word` meets its contract. The invariant: the first i bytes are written, and there is room for the rest.
 use mathlib.Core.List.{[], ◌∷◌}
-use Prim.Native.Nat.{◌-◌, ◌≤◌}
 use native.Mathlib.Numerals.{add-one}
 use native.Mathlib.Omega.{arith}
 use borrow.Author.Rules.{rules}
-use lib.ListN.{length, take, get_or}
+use lib.ListN.{get_or}
 use lib.Seq.{take-suc, take_all}
-use Rattle.text.proofs.TextLaws.{Grown, nothing, next, room, kept}
+use Rattle.text.proofs.TextLaws.{nothing, next, room, kept}
 use Rattle.text.proofs.write.word.Goals as goal
 
 pub loop-i-init : goal.loop-i-init
