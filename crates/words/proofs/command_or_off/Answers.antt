@@ -1,6 +1,5 @@
 -- `words::command_or_off` meets its contract, by the two cases.
 use native.Mathlib.Omega.{arith}
-use borrow.Author.Rules.{rules}
 use mir.Syntax.{w32}
 use mir.Val.{to_z, of_z}
 use mir.Facts.{to_z-of_z}
@@ -16,8 +15,6 @@ unfolding command_text
 returns-then-shown c =
     rw c.before.before.before.before.if-shown.true
     (rw (to_z-of_z c.before.before.before.before.before.before.ranges.command) at c.before.before.signed.ensures)
-
- 
 
 pub returns : goal.returns
 unfolding command_text

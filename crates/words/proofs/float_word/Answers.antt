@@ -1,5 +1,4 @@
 -- `words::float_word` meets its contract, by the two cases.
-use borrow.Author.Rules.{rules}
 use Rattle.words.specs.Text.{float_word}
 use Rattle.words.proofs.float_word.Goals as goal
 

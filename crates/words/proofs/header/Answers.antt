@@ -1,9 +1,6 @@
 -- `words::header` meets its contract: what `word` leaves.
-use borrow.Author.Rules.{rules}
 use Rattle.words.specs.Text.{header_text}
 use Rattle.words.proofs.header.Goals as goal
-
- 
 
 pub returns : goal.returns
 unfolding header_text

@@ -180,8 +180,8 @@ pub byte-requires : goal.byte-requires
 byte-requires c = omega (arith, room (after11 c.before.before.before))
 
 pub shape_of-out : goal.shape_of-out
-shape_of-out c = c.before.before.byte.auto.0 ∙ kept (after11 c.before.before.before.before.before.before)
+shape_of-out c = c.byte.auto.out ∙ kept (after11 c.before.before.before.before.before.before.before)
 
 pub returns : goal.returns
 unfolding line_text
-returns c = last line_feed (after11 c.before.before.before.before.before.before) (omega arith) c.before.before.byte.ensures
+returns c = last line_feed (after11 c.before.before.before.before.before.before.before) (omega arith) c.byte.ensures

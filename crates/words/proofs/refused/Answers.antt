@@ -1,11 +1,6 @@
 -- `words::refused` meets its contract: what `two_numbers` leaves.
-use borrow.Author.Rules.{rules}
 use Rattle.words.specs.Text.{refused_text}
 use Rattle.words.proofs.refused.Goals as goal
-
- 
-
- 
 
 pub returns : goal.returns
 unfolding refused_text

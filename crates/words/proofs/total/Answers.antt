@@ -1,11 +1,6 @@
 -- `words::total` meets its contract: what `two_numbers` leaves.
-use borrow.Author.Rules.{rules}
 use Rattle.words.specs.Text.{total_text}
 use Rattle.words.proofs.total.Goals as goal
-
- 
-
- 
 
 pub returns : goal.returns
 unfolding total_text
