@@ -1,5 +1,4 @@
 -- `unit_core::Core::frames` meets its contract, branch by branch.
-use borrow.Author.Rules.{rules}
 use borrow.Author.Tests.{lt-ltb, le-ltb}
 use Rattle.unit_core.specs.Core.{frames_of}
 use Rattle.unit_core.proofs.Core.frames.Goals as goal

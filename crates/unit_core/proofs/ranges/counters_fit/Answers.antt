@@ -1,7 +1,6 @@
 -- `unit_core::ranges::counters_fit` meets its contract: each step's result is put for its name.
 use mathlib.Core.Path.{◌≡◌}
 use mathlib.Core.Bool.{Bool, ◌&&◌}
-use borrow.Author.Rules.{rules}
 use lib.Dec.{leb}
 use Rattle.unit_core.specs.Core.{counters_fit}
 use Rattle.unit_core.specs.declared.Core.{Core}

@@ -1,5 +1,4 @@
 -- `unit_core::ranges::refusal_by` meets its contract: what the calls ensure.
-use borrow.Author.Rules.{rules}
 use Rattle.unit_core.specs.Core.{refusal_by}
 use Rattle.unit_core.proofs.ranges.refusal_by.Goals as goal
 
