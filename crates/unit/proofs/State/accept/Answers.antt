@@ -53,5 +53,5 @@ returns c =
     let spoken = p.before.voice-spoken.ensures in
     let end = p.pitch-end.ensures in
     let a = simp to_z-of_z at c.answer.ensures in
-    ap (λ (held : List ℤ). record { answer = c.answer.result; state = beside held p.pitch-end.result.core-1 }) (one_ring end ∙ one_ring spoken ∙ one_ring lit)
+    ap (λ (held : List ℤ). record { answer = c.answer.result; state = beside held p.pitch-end.result.core }) (one_ring end ∙ one_ring spoken ∙ one_ring lit)
     ∙ chain k.args.self k.args.s f.frames-n.ensures n.before.shear-x.ensures.0 entry entered (one_core lit) (one_core spoken) (one_core end) a

@@ -18,8 +18,8 @@ use Rattle.unit.proofs.ranges.held_fits.Goals as goal
 pub loop-i-init : goal.loop-i-init
 unfolding held_fits
 loop-i-init c =
-    let l : length c.args.t1 ≡ 200 = search rules in
-    (omega arith, l, sym (every_past _ c.args.t1 200 (omega arith)))
+    let l : length c.args.held ≡ 200 = search rules in
+    (omega arith, l, sym (every_past _ c.args.held 200 (omega arith)))
 
 -- one more at the front: what the two calls answer, of the element at i - 1 and of those from i on
 more : (held : List ℤ) (i : ℕ) {one rest both : Bool} → 0 < i → i ≤ length held
@@ -33,12 +33,11 @@ more held i p h e f g =
 
 pub loop-i-preserved : goal.loop-i-preserved
 loop-i-preserved c =
-    let k = c.before.before.before.before in
-    let held = k.before.args.t1 in
-    let i = k.loop-i.i in
-    let x : SFits w32 (get_or held (i - 1) (pos 0)) = record { sfits = c.before.before.between-arg-1.given } in
-    let one = simp to_z-of_z at c.before.between.ensures in
-    (omega arith, k.loop-i.invariant.1, more held i (omega arith) (omega arith) one k.loop-i.invariant.2 c.both-fits.ensures)
+    let held = c.args.held in
+    let i = c.loop-i.i in
+    let x : SFits w32 (get_or held (i - 1) (pos 0)) = search rules in
+    let one = simp to_z-of_z at c.between.ensures in
+    (omega arith, c.loop-i.invariant.1, more held i (omega arith) (omega arith) one c.loop-i.invariant.2 c.both-fits.ensures)
 
 pub returns : goal.returns
-returns c = let e : c.before.loop-i.i ≡ 0 = omega arith in rw e at c.before.loop-i.invariant.2
+returns c = let e : c.loop-i.i ≡ 0 = omega arith in rw e at c.loop-i.invariant.2
