@@ -1,8 +1,7 @@
 -- `unit::pushed` meets its contract: what `enter` and `back` ensure.
-use borrow.Author.Rules.{rules}
 use mir.Facts.{to_z-of_z}
 use Rattle.unit_core.specs.Core.{core_at}
-use Rattle.unit.specs.Steps.{beside, push_of}
+use Rattle.unit.specs.Steps.{push_of}
 use Rattle.unit.proofs.ValidLaws.{ring_holds}
 use Rattle.unit.proofs.pushed.Goals as goal
 

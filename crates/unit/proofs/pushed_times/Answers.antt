@@ -1,14 +1,11 @@
 -- `unit::pushed_times` meets its contract: after i turns the entry has come in i times, into a ring that passes 8.
-use mathlib.Core.Bool.{true}
 use mathlib.Core.Path.{◌≡◌, refl, sym, ap, ◌∙◌, subst}
-use Prim.Native.Nat.{◌-◌, ◌≤◌}
 use native.Mathlib.Numerals.{add-one}
 use native.Mathlib.Omega.{arith}
-use borrow.Author.Rules.{rules}
 use mir.Syntax.{w32}
 use mir.Val.{to_z, of_z}
 use mir.Facts.{to_z-of_z}
-use Rattle.unit.specs.Steps.{beside, entry_fits, push_of, push_times, RingValid}
+use Rattle.unit.specs.Steps.{beside, push_of, push_times, RingValid}
 use Rattle.unit.specs.declared.State.{State}
 use Rattle.unit.proofs.Holding.{push_valid}
 use Rattle.unit.proofs.pushed_times.Goals as goal

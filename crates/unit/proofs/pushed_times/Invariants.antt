@@ -1,8 +1,6 @@
 use mathlib.Core.Bool.{true}
 use mathlib.Core.Path.{◌≡◌}
 use Prim.Native.Nat.{◌-◌, ◌≤◌}
-use mir.Syntax.{w32}
-use mir.Val.{to_z}
 use Rattle.unit.specs.Steps.{beside, entry_fits, push_times, RingValid}
 use Rattle.unit.proofs.pushed_times.Given as goal
 

@@ -1,16 +1,10 @@
 -- `unit::step` meets its contract: the methods one after another; no number fits, so each may be called.
-use mathlib.Core.Bool.{true}
-use mathlib.Core.Path.{◌≡◌}
 use borrow.Author.Rules.{rules}
 use mir.Syntax.{w32}
 use mir.Val.{SFits}
 use mir.Facts.{to_z-of_z}
-use Rattle.frames.specs.Frames.{frames_fit}
 use Rattle.frames.proofs.FrameLaws.{fit_bounds}
-use Rattle.unit_core.specs.Core.{frames_of}
-use Rattle.unit.specs.Steps.{beside, Valid}
-use Rattle.rules.specs.Needs.{InRange}
-use Rattle.unit.specs.declared.State.{State}
+use Rattle.unit.specs.Steps.{beside}
 use Rattle.unit.proofs.StepLaws.{leans, entry_fits_lem, guide_kept, chain, promised}
 use Rattle.unit.proofs.step.Goals as goal
 

@@ -1,7 +1,6 @@
 -- `unit::State::fresh` meets its contract: zeros, and the core that the call gives.
 use mathlib.Core.List.{List}
 use mathlib.Core.Path.{◌≡◌, refl}
-use borrow.Author.Rules.{rules}
 use lib.IntN.{ℤ, pos}
 use lib.ListN.{replicate}
 use Rattle.unit_core.specs.Core.{fresh_core}

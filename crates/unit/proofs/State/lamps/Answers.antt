@@ -1,5 +1,4 @@
 -- `unit::State::lamps` meets its contract: what the core's method ensures.
-use borrow.Author.Rules.{rules}
 use mir.Facts.{to_z-of_z}
 use Rattle.unit.proofs.State.lamps.Goals as goal
 

@@ -1,5 +1,4 @@
 -- `unit::State::voice` meets its contract: what the core's method ensures.
-use borrow.Author.Rules.{rules}
 use Rattle.unit.proofs.State.voice.Goals as goal
 
 pub returns : goal.returns

@@ -1,6 +1,5 @@
 -- `unit::State::windows` meets its contract: what `entered` ensures.
 use mathlib.Core.Path.{◌∙◌}
-use borrow.Author.Rules.{rules}
 use mir.Facts.{to_z-of_z}
 use Rattle.unit.proofs.State.windows.Goals as goal
 

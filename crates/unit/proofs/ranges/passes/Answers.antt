@@ -1,5 +1,4 @@
 -- `unit::ranges::passes` meets its contract: each step's result is put for its name.
-use borrow.Author.Rules.{rules}
 use Rattle.unit.specs.Steps.{passes}
 use Rattle.unit.proofs.ranges.passes.Goals as goal
 

@@ -1,7 +1,6 @@
 -- `unit::ranges::ring_fits` meets its contract: the ring is whole, the test of the place is the branch's, and the two calls are the rest.
 use Prim.Native.Nat.{◌≤◌}
 use native.Mathlib.Omega.{arith}
-use borrow.Author.Rules.{rules}
 use borrow.Author.Tests.{eq-eqb, lt-ltb, le-ltb}
 use Rattle.unit.specs.Steps.{ring_fits}
 use Rattle.unit.proofs.ranges.ring_fits.Goals as goal
