@@ -1,10 +1,10 @@
 -- `read::digits` meets its contract. The invariant: n with the digits from i on is cut to what the whole is cut to.
-use mathlib.Core.Path.{◌≡◌, refl, sym, ap, ◌∙◌}
-use Prim.Native.Nat.{◌+◌, ◌-◌, ◌*◌, ◌≤◌, ◌<◌, min}
+use mathlib.Core.Path.{refl, sym, ap, ◌∙◌}
+use Prim.Native.Nat.{◌+◌, ◌-◌, min}
 use native.Mathlib.Omega.{arith}
 use borrow.Author.Rules.{rules}
-use lib.ListN.{length, drop, get_or}
-use Rattle.numbers.specs.Number.{digits_from, number_limit, cut_size}
+use lib.ListN.{drop, get_or}
+use Rattle.numbers.specs.Number.{number_limit}
 use Rattle.numbers.specs.declared.read.Size.TheVariants.{Of}
 use Rattle.numbers.proofs.DigitLaws.{cut_digits, longer_cut, longer_below, digits_low, digits_high, digits_next, digits_end}
 use Rattle.numbers.proofs.read.digits.Goals as goal

@@ -3,7 +3,6 @@ use mathlib.Core.List.{List, [], ◌∷◌}
 use mathlib.Core.Path.{◌≡◌, refl}
 use Prim.Native.Nat.{ℕ}
 use native.Mathlib.Omega.{arith}
-use borrow.Author.Rules.{rules}
 use lib.ListN.{length, get_or}
 use Rattle.numbers.proofs.read.first.Goals as goal
 
@@ -13,4 +12,3 @@ none (b ∷ l) h = absurd (let z : ⊥ = omega arith in z)
 
 pub returns-then-s-eq0 : goal.returns-then-s-eq0
 returns-then-s-eq0 c = none c.before.args.s.now c.if-s-eq0.true
-

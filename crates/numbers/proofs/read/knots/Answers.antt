@@ -1,6 +1,5 @@
 -- `read::knots` meets its contract: what its callees ensure, joined.
 use mathlib.Core.Path.{◌∙◌}
-use borrow.Author.Rules.{rules}
 use Rattle.numbers.specs.Number.{knots_size, knots_of}
 use Rattle.numbers.proofs.SizeLaws.{sign_in, cut_again, joined}
 use Rattle.numbers.proofs.read.knots.Goals as goal

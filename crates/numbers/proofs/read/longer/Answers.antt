@@ -1,5 +1,4 @@
 -- `read::longer` meets its contract, by its test.
-use borrow.Author.Rules.{rules}
 use borrow.Author.Tests.{lt-ltb, le-ltb}
 use Rattle.numbers.specs.Number.{number_limit}
 use Rattle.numbers.proofs.read.longer.Goals as goal

@@ -1,5 +1,4 @@
 -- `read::sign_length` meets its contract, by its tests.
-use borrow.Author.Rules.{rules}
 use borrow.Author.Tests.{eq-eqb, ne_eqb}
 use Rattle.numbers.specs.Number.{sign_length}
 use Rattle.numbers.proofs.read.sign_length.Goals as goal

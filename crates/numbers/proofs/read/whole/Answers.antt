@@ -1,6 +1,5 @@
 -- `read::whole` meets its contract: what its callees ensure, joined.
 use mathlib.Core.Path.{◌∙◌}
-use borrow.Author.Rules.{rules}
 use Rattle.numbers.specs.Number.{whole_size, whole_of}
 use Rattle.numbers.proofs.SizeLaws.{sign_in, cut_again, joined}
 use Rattle.numbers.proofs.read.whole.Goals as goal

@@ -1,6 +1,5 @@
 -- `read::whole_size` meets its contract, by the laws of its ways.
 use mathlib.Core.Path.{ap, ◌∙◌}
-use borrow.Author.Rules.{rules}
 use Rattle.numbers.specs.Number.{cut_size}
 use Rattle.numbers.proofs.SizeLaws.{whole_none, whole_some}
 use Rattle.numbers.proofs.read.whole_size.Goals as goal
