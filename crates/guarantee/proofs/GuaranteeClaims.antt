@@ -111,6 +111,8 @@ amber_never l h = rw (never_lit amber_condition red_lit (λ l. turned (entries h
 ordered : (one other : List Sample) → AtLeast one other → Ordered (entries held other) (entries held one)
 unfolding AtLeast entries
 ordered [] [] h = tt
+ordered [] (t ∷ other) h = elim h [ ]
+ordered (s ∷ one) [] h = elim h [ ]
 ordered (s ∷ one) (t ∷ other) h =
     rw h.2 (ordered_times (frames t other) (held t other) (held s one) (entries held other) (entries held one) h.3 (ordered one other h.4))
 
@@ -121,6 +123,8 @@ same_band s t one other h = ap (inside band) h.0
 pub red_in_order : RedInOrder
 unfolding RedInOrder AtLeast
 red_in_order [] [] h e = e
+red_in_order [] (t ∷ other) h e = elim h [ ]
+red_in_order (s ∷ one) [] h e = elim h [ ]
 red_in_order (s ∷ one) (t ∷ other) h e =
     let a = both_true (in_band t) (meets windows (entries held (t ∷ other))) (sym (red_is t other) ∙ e) in
     let met = order_meets windows (entries held (t ∷ other)) (entries held (s ∷ one)) (ordered (s ∷ one) (t ∷ other) h) a.1 in

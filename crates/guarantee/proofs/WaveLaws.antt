@@ -125,6 +125,8 @@ ordered_times (suc n) x y l m h k = (h, ordered_times n x y l m h k)
 sum_order : (n k : ℕ) (l m : List ℤ) → Ordered l m → sum_ℤ (take n (l ++ replicate k (pos 0))) ≤ℤ sum_ℤ (take n (m ++ replicate k (pos 0)))
 sum_order zero k l m h = ≤ℤ_refl (pos 0)
 sum_order (suc n) k [] [] h = ≤ℤ_refl _
+sum_order (suc n) k [] (y ∷ m) h = elim h [ ]
+sum_order (suc n) k (x ∷ l) [] h = elim h [ ]
 sum_order (suc n) k (x ∷ l) (y ∷ m) h =
     let s = sum_ℤ (take n (l ++ replicate k (pos 0))) in
     let t = sum_ℤ (take n (m ++ replicate k (pos 0))) in
@@ -132,6 +134,8 @@ sum_order (suc n) k (x ∷ l) (y ∷ m) h =
 
 entered_order : (l m : List ℤ) → Ordered l m → Ordered (entered l) (entered m)
 entered_order [] [] h = tt
+entered_order [] (y ∷ m) h = elim h [ ]
+entered_order (x ∷ l) [] h = elim h [ ]
 entered_order (x ∷ l) (y ∷ m) h = (cut_order entry_limit x y h.0, entered_order l m h.1)
 
 entered_most : (k : ℕ) (l : List ℤ) → NoneAbove k l → NoneAbove k (entered l)

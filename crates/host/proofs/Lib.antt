@@ -1,3 +1,2 @@
-pub mod Structs
 pub mod Demand3
 pub mod Anew
