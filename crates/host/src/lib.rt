@@ -1,4 +1,4 @@
-// The unit, run files, their listings and CSV text for programs in other languages: C functions in a static library.
+// The unit, run files, their listings and CSV text for programs in other languages: the functions that host_c exports to C.
 #![tactic(auto)]
 
 ghost use Rattle.std.specs.Prelude.{◌≡◌, length};
@@ -38,24 +38,21 @@ pub struct ConvertedFloat {
 }
 
 // The state that has seen no sample.
-#[unsafe(no_mangle)]
-pub extern "C" fn windshear_fresh() -> State
+pub fn windshear_fresh() -> State
     ensures { result ≡ fresh_state }
 {
     State::fresh()
 }
 
 // A sample offered in the plain form: the answer, and the state after it.
-#[unsafe(no_mangle)]
-pub extern "C" fn windshear_offer(state: State, sample: Sample) -> Offered
+pub fn windshear_offer(state: State, sample: Sample) -> Offered
     ensures { PlainPromise state sample result.answer result.state }
 {
     state.offer(sample)
 }
 
 // A sample offered in the lent form: the answer, and the lent state is left as the state after it; a refused sample leaves it as it stood.
-#[unsafe(no_mangle)]
-pub extern "C" fn windshear_offer_lent(state: &mut State, sample: Sample) -> Answer
+pub fn windshear_offer_lent(state: &mut State, sample: Sample) -> Answer
     ensures { LentPromise state.old sample result state.new }
 {
     let r = State::offer(*state, sample);
@@ -64,8 +61,7 @@ pub extern "C" fn windshear_offer_lent(state: &mut State, sample: Sample) -> Ans
 }
 
 // The hundredths that the float of a pattern becomes, whether it was exact, and whether they were cut.
-#[unsafe(no_mangle)]
-pub extern "C" fn windshear_hundredths(bits: u32) -> ConvertedFloat
+pub fn windshear_hundredths(bits: u32) -> ConvertedFloat
     ensures { result ≡ converted_numbers (converted_of (Ieee.of_bits binary32 bits)) }
 {
     match float::hundredths(bits) {
@@ -85,24 +81,21 @@ pub extern "C" fn windshear_hundredths(bits: u32) -> ConvertedFloat
 }
 
 // Eight header bytes of a version; or 3, 5 or 7, and the buffer untouched.
-#[unsafe(no_mangle)]
-pub extern "C" fn windshear_write_header(version: u32, count: u32, buf: &mut [u8]) -> u16
+pub fn windshear_write_header(version: u32, count: u32, buf: &mut [u8]) -> u16
     ensures { (result ≡ write_header_refusal version count (length buf.old)) × (buf.new ≡ written_header version count buf.old) }
 {
     header::write(version, count, buf)
 }
 
 // 24 record bytes, or 26 in version 2; or 3, 7 or 11 to 20, and the buffer untouched.
-#[unsafe(no_mangle)]
-pub extern "C" fn windshear_write_record(version: u32, record: Record, buf: &mut [u8]) -> u16
+pub fn windshear_write_record(version: u32, record: Record, buf: &mut [u8]) -> u16
     ensures { (result ≡ write_record_refusal version «record» (length buf.old)) × (buf.new ≡ written_record version «record» buf.old) }
 {
     format::records::write(version, record, buf)
 }
 
 // A file's own test: 1 to 6, then 11 to 21 with the first bad record's place; or the count of its records and its version.
-#[unsafe(no_mangle)]
-pub extern "C" fn windshear_test_file(file: &[u8]) -> FileTest
+pub fn windshear_test_file(file: &[u8]) -> FileTest
     ensures { result ≡ file_test_of file.now }
 {
     tested::test_file(file)
@@ -110,40 +103,35 @@ pub extern "C" fn windshear_test_file(file: &[u8]) -> FileTest
 
 // The record at a place, from 0, with its sample and whether its floats were exact; or why there is none to read: 1 to 6, 11 to 20, or 0 where the
 // file has no such place.
-#[unsafe(no_mangle)]
-pub extern "C" fn windshear_read_record(file: &[u8], place: usize) -> Reading
+pub fn windshear_read_record(file: &[u8], place: usize) -> Reading
     ensures { result ≡ reading_of file.now place }
 {
     format::reading::record_at(file, place)
 }
 
 // A whole run: ten answer bytes a record; or the refusal with its place, and the buffer untouched.
-#[unsafe(no_mangle)]
-pub extern "C" fn windshear_run(file: &[u8], answers: &mut [u8]) -> Outcome
+pub fn windshear_run(file: &[u8], answers: &mut [u8]) -> Outcome
     ensures { RunPromise file.now answers.old result answers.new }
 {
     runfile::run::run(file, answers)
 }
 
 // The listing of a file as the program `listing` prints it, and its length; or 0, and the buffer untouched, where it is shorter than the room.
-#[unsafe(no_mangle)]
-pub extern "C" fn windshear_list(file: &[u8], listing: &mut [u8]) -> usize
+pub fn windshear_list(file: &[u8], listing: &mut [u8]) -> usize
     ensures { ListingPromise file.now listing.old result listing.new }
 {
     catalog::listing(file, listing)
 }
 
 // The exact length of the run file that a CSV text becomes; or 23, 24, 11 to 20 with the first bad line's place, or 5.
-#[unsafe(no_mangle)]
-pub extern "C" fn windshear_import_length(text: &[u8]) -> Needed
+pub fn windshear_import_length(text: &[u8]) -> Needed
     ensures { result ≡ import_needs text.now }
 {
     import::import_length(text)
 }
 
 // The run file that a CSV text becomes; or the refusal with its place, and the buffer untouched.
-#[unsafe(no_mangle)]
-pub extern "C" fn windshear_import(text: &[u8], file: &mut [u8]) -> Exchanged
+pub fn windshear_import(text: &[u8], file: &mut [u8]) -> Exchanged
     ensures { ImportPromise text.now file.old result file.new }
 {
     import::import(text, file)
@@ -151,16 +139,14 @@ pub extern "C" fn windshear_import(text: &[u8], file: &mut [u8]) -> Exchanged
 
 // The exact length of the CSV text that a run file of version 1 becomes; or 1 to 6, 3 for any other version, or 11 to 20 with the first bad record's
 // place.
-#[unsafe(no_mangle)]
-pub extern "C" fn windshear_export_length(file: &[u8]) -> Needed
+pub fn windshear_export_length(file: &[u8]) -> Needed
     ensures { result ≡ export_needs file.now }
 {
     export::export_length(file)
 }
 
 // The CSV text that a run file of version 1 becomes; or the refusal with its place, and the buffer untouched.
-#[unsafe(no_mangle)]
-pub extern "C" fn windshear_export(file: &[u8], text: &mut [u8]) -> Exchanged
+pub fn windshear_export(file: &[u8], text: &mut [u8]) -> Exchanged
     ensures { ExportPromise file.now text.old result text.new }
 {
     export::export(file, text)
