@@ -3,11 +3,13 @@
 #![tactic(auto)]
 
 ghost use Rattle.std.specs.Prelude.{◌≡◌, length, take};
-ghost use Rattle.io.specs.Counts.{IsPrefixLen};
+ghost use Rattle.listing.specs.Counts.{IsPrefixLen};
 ghost use Rattle.catalog.specs.Listing.{listing_of, most_read};
 
 use header::record;
-use libc::{STDERR_FILENO, STDIN_FILENO, STDOUT_FILENO};
+use std::env::{Env, FillError};
+use std::io::{Error, ErrorKind, Read, Stdin, Write};
+use std::rt::HostRuntime;
 
 // The header, 2,600 lines and the totals, 64 bytes each.
 const ROOM: usize = 64 * (header::MOST + 2);
@@ -15,38 +17,44 @@ const ROOM: usize = 64 * (header::MOST + 2);
 // "up to 65,009 bytes" (02, A6): one more than the longest run has, which is of version 2.
 const MOST_READ: usize = header::SIZE + record::SIZE_2 * header::MOST_2 + 1;
 
-// How many bytes were read, and whether a read failed before the input's end.
+// How many bytes were read, and why a read failed before the input's end, if one did.
 #[derive(Clone, Copy)]
 struct Input {
     length: usize,
-    failed: bool,
+    failed: Option<Error>,
 }
 
 // Reads until the buffer is full, the input ends or a read fails. A read that a signal interrupts is tried again. A proved loop has to
 // end, and nothing says that the input does: so the turns are counted down, from a number that no input uses up.
-fn read_input(fd: i32, file: &mut [u8]) -> Input
+fn read_input(stdin: Stdin, file: &mut [u8]) -> Input
     requires { length file.old ≡ most_read }
     ensures { IsPrefixLen result.length file.new }
 {
+    let mut from = stdin;
     let mut done: usize = 0;
     let mut turns = u64::MAX;
     while done < file.len() && turns > 0 {
-        let got = libc::read(fd, &mut file[done..]);
-        if got == 0 {
-            break;
+        match from.read(&mut file[done..]) {
+            Ok(0) => break,
+            Ok(n) => done += n,
+            Err(e) => {
+                if !matches!(e.kind(), ErrorKind::Interrupted) {
+                    return Input {
+                        length: done,
+                        failed: Some(e),
+                    };
+                }
+            }
         }
-        if got < 0 && os::errno() != libc::EINTR {
-            return Input {
-                length: done,
-                failed: true,
-            };
-        }
-        done += io::count(got, &file[done..]);
         turns -= 1;
     }
     Input {
         length: done,
-        failed: turns == 0,
+        failed: if turns == 0 {
+            Some(Error::from(ErrorKind::TimedOut))
+        } else {
+            None
+        },
     }
 }
 
@@ -57,25 +65,39 @@ fn whole_listing(file: &[u8], out: &mut [u8; ROOM]) -> usize
     catalog::listing(file, out)
 }
 
-fn print_listing(file: &[u8]) {
+// Says what failed in a line on standard error: what, and the system's words for why, without the number that std puts after them.
+fn fail(rt: HostRuntime, what: &str, error: Error) {
+    let Ok(text) = format!(in rt.alloc(); "{error}") else {
+        let _ = eprintln!(rt; "{what}: {error}");
+        return;
+    };
+    let words = text.as_str();
+    let why = match words.split_once(" (os error ") {
+        Some((why, _)) => why,
+        None => words,
+    };
+    let _ = eprintln!(rt; "{what}: {why}");
+}
+
+fn print_listing(rt: HostRuntime, file: &[u8]) {
     let mut out = [0u8; ROOM];
     let n = whole_listing(file, &mut out);
-    if !io::write_all(STDOUT_FILENO, &out[..n]) {
-        os::fail(b"listing: the listing can't be written whole");
+    if let Err(e) = rt.stdout().write_all(&out[..n]) {
+        fail(rt, "listing: the listing can't be written whole", e);
     }
 }
 
-fn main() {
-    if os::arg_count() > 1 {
-        io::write_all(STDERR_FILENO, b"usage: listing <FILE\n");
+fn main(rt: HostRuntime) {
+    if !matches!(rt.arg(1, &mut []), Err(FillError::NotPresent)) {
+        let _ = eprintln!(rt; "usage: listing <FILE");
         return;
     }
     let mut file = [0u8; MOST_READ];
-    let input = read_input(STDIN_FILENO, &mut file);
-    if input.failed {
-        os::fail(b"listing: standard input can't be read");
+    let input = read_input(rt.stdin(), &mut file);
+    if let Some(e) = input.failed {
+        fail(rt, "listing: standard input can't be read", e);
         return;
     }
     let n = input.length;
-    print_listing(&file[..n]);
+    print_listing(rt, &file[..n]);
 }

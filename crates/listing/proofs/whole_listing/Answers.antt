@@ -9,7 +9,7 @@ use borrow.Author.Tests.{eqb-true, eqb-false, le-ltb}
 use lib.Dec.{eqb}
 use lib.ListN.{length, take}
 use lib.Seq.{take-append_seam}
-use Rattle.io.proofs.Counting.{prefix_len_of_le}
+use Rattle.listing.proofs.Counting.{prefix_len_of_le}
 use Rattle.tested.specs.Tested.{tested_of}
 use Rattle.catalog.specs.Listing.{listing_of, room_of, listed_size, listed_in}
 use Rattle.catalog.proofs.ListingLaws.{room_good, room_refused, size_fits}
