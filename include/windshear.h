@@ -1,4 +1,4 @@
-/* The proved windshear unit for C programs. Link target/staticlib/libhost.a, which `rt staticlib host` writes. It is for x86-64 Linux only.
+/* The proved windshear unit for C programs. Link target/staticlib/libhost.a, which `./staticlib host` writes. It is for x86-64 Linux only.
  *
  * Every function is defined for every value of its arguments: what is out of range is refused by a number. A pointer must not
  * be NULL, not even where the length is 0, and must be valid for the size given. malloc(0) and the data() of an empty

@@ -1,4 +1,4 @@
-//! Links the static library that `rt staticlib host` writes.
+//! Links the static library that `./staticlib host` writes.
 
 use std::path::Path;
 

@@ -1,4 +1,4 @@
-//! The listing program, as `rt check listing` builds it.
+//! The listing program, as the gate and `./list` build it.
 
 use std::io::Write;
 use std::path::{Path, PathBuf};
@@ -6,7 +6,7 @@ use std::process::{Command, Stdio};
 
 /// Where it is.
 pub fn program() -> PathBuf {
-    Path::new(env!("CARGO_MANIFEST_DIR")).join("../target/bin/listing")
+    Path::new(env!("CARGO_MANIFEST_DIR")).join("../crates/listing/out/listing")
 }
 
 /// What the program prints for a file.
@@ -15,7 +15,7 @@ pub fn listed(file: &[u8]) -> String {
         .stdin(Stdio::piped())
         .stdout(Stdio::piped())
         .spawn()
-        .expect("rt check listing builds it");
+        .expect("./list builds it");
     let mut input = child.stdin.take().unwrap();
     let file = file.to_vec();
     // what lies past 65,009 bytes is not read, so a write may fail there

@@ -789,8 +789,8 @@ const SOURCES: [&str; 7] = [
     "bindings/rust/build.rs",
 ];
 
-/// A copy of the repository's outside: two crates below `host` and one beside it, with an `rt` and a `cargo` that say what they are asked, and fail at
-/// what the file `fails` has. The command that is built says its arguments and its input, and ends with 7.
+/// A copy of the repository's outside: two crates below `host`, `host_c` above it and one beside it, with an `rt` and a `cargo` that say what they are
+/// asked, and in which folder, and fail at what the file `fails` has. The command that is built says its arguments and its input, and ends with 7.
 fn repository(name: &str) -> Shop {
     let shop = Shop::new(name);
     let put = |name: &str, content: &str| {
@@ -802,12 +802,16 @@ fn repository(name: &str) -> Shop {
     for source in SOURCES {
         put(source, "");
     }
-    put("crates.txt", "# the crates\nlow:\nbeside: low\nhigh: low bytes\nhost: high bytes\n");
-    let says = "#!/bin/sh\necho \"${0##*/} $*\" | tee -a asked\nif [ -e fails ] && grep -qx \"$1 $2\" fails; then echo 'it fails' >&2; exit 1; fi\n";
-    put("bin/rt", says);
+    put("crates.txt", "# the crates\nlow:\nbeside: low\nhigh: low bytes\nhost: high bytes\nhost_c staticlib: host bytes\n");
+    put("crates/host_c/src/lib.rt", "");
+    let says = "#!/bin/sh\ntop=${0%/*}/..\nasked=\"${0##*/} $* in ${PWD##*/}\"\necho \"$asked\" | tee -a \"$top/asked\"\n\
+                if [ -e \"$top/fails\" ] && grep -qx \"$asked\" \"$top/fails\"; then echo 'it fails' >&2; exit 1; fi\n";
+    put("bin/rt", &format!("{says}mkdir -p out\necho > \"out/lib${{PWD##*/}}.a\"\n"));
     put("bin/cargo", &format!("{says}mkdir -p target/cargo/release\nsleep 0.2\ncp bin/command target/cargo/release/windshear\n"));
     put("bin/command", "#!/bin/sh\necho \"$* $(cat)\"\nexit 7\n");
-    fs::copy(Path::new(ROOT).join("windshear"), shop.0.join("windshear")).unwrap();
+    for program in ["windshear", "staticlib"] {
+        fs::copy(Path::new(ROOT).join(program), shop.0.join(program)).unwrap();
+    }
     // as it may stand in a folder of programs
     symlink("../windshear", shop.0.join("bin/windshear")).unwrap();
     shop
@@ -833,23 +837,27 @@ fn without_seconds(left: Left) -> Left {
 fn the_script_builds_what_is_missing_and_then_runs_it() {
     let shop = repository("script");
     let called = || without_seconds(run_on(&mut script(&shop, &["list", "a b", "-"]), input("in")));
-    let steps = ["proving low, 1 of 3", "proving high, 2 of 3", "proving host, 3 of 3", "building the command"];
+    let steps = ["proving low, 1 of 4", "proving high, 2 of 4", "proving host, 3 of 4", "proving host_c, 4 of 4", "building the command"];
     let said = |n: usize| steps[..n].iter().map(|step| format!("windshear: {step}: N s\n")).collect::<String>();
-    let ran = |built: bool| left(7, "list a b - in\n", &said(if built { 4 } else { 0 }));
+    let ran = |built: bool| left(7, "list a b - in\n", &said(if built { 5 } else { 0 }));
     let failed = |n: usize, asked: &str| format!("{}windshear: {}: failed\n{asked}\nit fails\nwindshear: the command can't be built\n", said(n), steps[n]);
     let fails = |what: &str| fs::write(shop.0.join("fails"), what).unwrap();
     let put = |name: &str, content: &[u8]| fs::write(shop.0.join(name), content).unwrap();
-    let cargo = "cargo build --release --offline --manifest-path bindings/rust/Cargo.toml --target-dir target/cargo";
+    // the folder that the script stands in
+    let top = shop.0.file_name().unwrap().to_str().unwrap();
+    let cargo = format!("cargo build --release --offline --manifest-path bindings/rust/Cargo.toml --target-dir target/cargo in {top}");
+    let asked = ["rt lib in low", "rt lib in high", "rt lib in host", "rt lib in host_c", cargo.as_str()];
     let mut cases = vec![];
-    for (n, asked) in ["rt check low", "rt check high", "rt staticlib host", cargo].into_iter().enumerate() {
-        fails(&asked.split(' ').skip(1).take(2).collect::<Vec<_>>().join(" "));
+    for (n, asked) in asked.into_iter().enumerate() {
+        fails(asked);
         cases.push(("a step fails", called(), left(2, "", &failed(n, asked))));
         assert!(!shop.0.join("target/bin/windshear").exists());
     }
     fails("");
     fs::remove_file(shop.0.join("asked")).unwrap();
     cases.push(("built", called(), ran(true)));
-    assert_eq!(string(shop.read("asked")), format!("rt check low\nrt check high\nrt staticlib host\n{cargo}\n"));
+    assert_eq!(string(shop.read("asked")), asked.map(|asked| format!("{asked}\n")).concat());
+    assert_eq!(string(shop.read("target/staticlib/libhost.a")), "\n");
     cases.push(("built already", called(), ran(false)));
     for source in SOURCES {
         let content = shop.read(source);
@@ -872,8 +880,8 @@ fn the_script_builds_what_is_missing_and_then_runs_it() {
     put("fails", b"");
     cases.push(("other files do not matter", called(), ran(false)));
     put("crates/low/src/lib.rt", b"one");
-    fails("check high");
-    cases.push(("what is there is not run where its sources are others", called(), left(2, "", &failed(1, "rt check high"))));
+    fails("rt lib in high");
+    cases.push(("what is there is not run where its sources are others", called(), left(2, "", &failed(1, "rt lib in high"))));
     fails("");
     cases.push(("but once it is built anew", called(), ran(true)));
     // what changes during the build is built the next time
@@ -885,7 +893,7 @@ fn the_script_builds_what_is_missing_and_then_runs_it() {
         std::thread::sleep(Duration::from_millis(1));
     }
     put("crates/low/src/lib.rt", b"three");
-    cases.push(("the first", without_seconds(ended(child)), left(7, "first \n", &said(4))));
+    cases.push(("the first", without_seconds(ended(child)), left(7, "first \n", &said(5))));
     cases.push(("changed meanwhile", called(), ran(true)));
     compare(cases, "calls of the script");
 }
@@ -917,7 +925,7 @@ fn two_calls_of_the_script_build_once() {
     let left: Vec<_> = children.into_iter().map(ended).collect();
     assert!(left.iter().all(|left| (left.status, left.out.as_str()) == (7, "all \n")), "{left:?}");
     assert_eq!(left.iter().filter(|left| !left.said.is_empty()).count(), 1);
-    assert_eq!(string(shop.read("asked")).lines().count(), 4);
+    assert_eq!(string(shop.read("asked")).lines().count(), 5);
     println!("compared 4 calls at once");
 }
 

@@ -16,9 +16,9 @@ use windshear_tests::gen::{numbered, CALM};
 use windshear_tests::reference::{listing, Sample, RANGES, VERSIONS};
 use windshear_tests::shell::{after, command, compare, empty, ended, left, reset_after, run, run_on, run_to, signal, ROOT};
 
-/// The program itself, which `rt check listing` builds.
+/// The program itself, which the gate and `./list` build.
 fn program() -> Command {
-    command(&format!("{ROOT}/target/bin/listing"))
+    command(&format!("{ROOT}/crates/listing/out/listing"))
 }
 
 fn list(file: impl AsRef<Path>) -> Command {
@@ -132,8 +132,8 @@ fn a_listing_that_cannot_be_written_is_a_fault() {
         ("full", run_to(program().stdin(input()), full()), by_program("No space left on device")),
         ("closed", run(after("exec >&-", &program()).stdin(input())), by_program("Bad file descriptor")),
         ("closed pipe", run_to(after("trap '' PIPE", &program()).stdin(input()), closed_pipe()), by_program("Broken pipe")),
-        // by default the system ends a program that writes to a closed pipe: no Rattle program can prevent it, and ./list does
-        ("closed pipe, unprepared", run_to(program().stdin(input()), closed_pipe()), left(141, "", "")),
+        // a Rattle program ignores the signal by which the system would end it
+        ("closed pipe, unprepared", run_to(program().stdin(input()), closed_pipe()), by_program("Broken pipe")),
         (
             "too large",
             run_to(after(limit, &program()).stdin(input()), File::create(folder.join("program")).unwrap()),
@@ -275,8 +275,9 @@ fn a_program_that_fails_ends_with_2() {
     };
     symlink(Path::new(ROOT).join("list"), folder.join("list")).unwrap();
     let fault = |said: &str| left(2, "", &format!("list: {said}\n"));
-    // rt runs `check listing`: a shell runs the script of that name
-    fs::write(folder.join("check"), "echo proving && mkdir -p target/bin && ln -s /bin/sh target/bin/listing").unwrap();
+    // rt does `run` in the crate's folder: a shell does the script of that name
+    fs::create_dir_all(folder.join("crates/listing")).unwrap();
+    fs::write(folder.join("crates/listing/run"), "echo proving >&2 && mkdir out && ln -s /bin/sh out/listing").unwrap();
     let mut cases = vec![
         ("not built", with_rt("/bin/false"), fault("the program can't be built")),
         ("built in name only", with_rt("/bin/true"), fault("the program can't be built")),

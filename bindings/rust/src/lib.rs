@@ -1,7 +1,7 @@
 //! The proved windshear unit and its run files, their listings and their exchange with spreadsheets, for Rust programs. Every function takes every
 //! value: what is out of range is refused by its number.
 //!
-//! It is for x86-64 Linux only: it links target/staticlib/libhost.a, which `rt staticlib host` writes.
+//! It is for x86-64 Linux only: it links target/staticlib/libhost.a, which `./staticlib host` writes.
 //!
 //! Twenty frames make a second. The host numbers them with 16 bits that go round, and each sample carries its number: see [`Sample::frame`].
 //!
