@@ -4,7 +4,6 @@ use mathlib.Core.List.{List}
 use mathlib.Core.Path.{◌≡◌, refl}
 use Prim.Native.Nat.{ℕ, ◌+◌, ◌*◌, ◌≤◌}
 use native.Mathlib.Omega.{arith}
-use borrow.Author.Rules.{rules}
 use borrow.Author.Tests.{eqb-true, eqb-false, le-ltb}
 use lib.Dec.{eqb}
 use lib.ListN.{length, take}
@@ -41,6 +40,6 @@ pub returns : goal.returns
 returns c =
     let e = c.listing.ensures in
     let s = c.before.before.before.args in (
-      prefix_len_of_le _ _ (rw (e.size, c.listing.auto.1.0) (size_fits _ _)),
+      prefix_len_of_le _ _ (rw (e.size, c.listing.auto.out) (size_fits _ _)),
       rw (e.size, e.text) (whole s.file.now s.out.now (fits c)),
     )
