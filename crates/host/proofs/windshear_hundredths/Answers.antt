@@ -13,7 +13,7 @@ pub returns-in-Hundredths : goal.returns-in-Hundredths
 unfolding converted_numbers
 returns-in-Hundredths c =
     let a = c.in-Hundredths in
-    let kept : to_z w32 (of_z w32 a.number) ≡ a.number = to_z-of_z (search rules) in
+    let kept : to_z w32 (of_z w32 a.number) ≡ a.number = to_z-of_z {w = w32} (search rules) in
     (λ i. record { finite = 1; exact = as_flag a.exact i; cut = as_flag a.cut i; hundredths = kept i }) ∙ ap converted_numbers a.ensures
 
 pub returns-in-NotFinite : goal.returns-in-NotFinite
