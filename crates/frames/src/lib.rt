@@ -12,6 +12,7 @@ pub fn elapsed(number: u16, last: u16) -> u16
 }
 
 // Whether a sample may stand for so many: 1 to 20.
+#[tactic(auto, unfolding(crate::specs::Frames::frames_fit))]
 pub fn fit(n: u16) -> bool
     ensures { result ≡ frames_fit n }
 {

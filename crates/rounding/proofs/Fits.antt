@@ -1,14 +1,14 @@
 -- Signed machine arithmetic by size. `Holds g x m`: what is read back, g, is the exact number x, whose size is at most m.
 -- The proof of an expression mirrors it: `times`, `plus`, `minus` at an operation, `kept` at a local, `sfits` at a need that a result fits.
-use mathlib.Core.Path.{◌≡◌, refl, sym, ap, ◌∙◌, subst}
-use mathlib.Core.Bool.{Bool, true, false}
-use Prim.Native.Nat.{ℕ, zero, suc, ◌+◌, ◌*◌, ◌-◌, ◌≤◌, ◌<◌, ◌^◌}
+use mathlib.Core.Path.{◌≡◌, refl, ◌∙◌, subst}
+use mathlib.Core.Bool.{true, false}
+use Prim.Native.Nat.{ℕ, zero, suc, ◌+◌, ◌*◌, ◌≤◌, ◌<◌, ◌^◌}
 use native.Mathlib.Nat.{le_refl, le_trans, lt_of_le_of_lt, mul-le-mul, add-le-add}
 use native.Mathlib.Omega.{arith}
 use borrow.Author.Tests.{ltb-true}
 use lib.Dec.{T, leb→le}
 use lib.IntN.{ℤ, pos, negsuc, neg_ℤ, nat_abs, ◌+ℤ◌, ◌-ℤ◌, ◌*ℤ◌}
-use lib.Signed.{mag, non_neg, le_z, lt_z, ◌≤ℤ◌, ◌<ℤ◌}
+use lib.Signed.{mag, non_neg, lt_z, ◌≤ℤ◌}
 use mir.Syntax.{Width}
 use mir.Val.{SFits, Fits, to_z, of_z, hbits, bits}
 use mir.Facts.{to_z-of_z, to_z_pos}

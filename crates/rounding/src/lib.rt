@@ -47,6 +47,7 @@ pub fn round(num: i64, den: u64) -> i64
 }
 
 // A number cut to between -most and most.
+#[tactic(auto, unfolding(crate::specs::Cut::cut))]
 pub fn cut(x: i64, most: u32) -> i64
     ensures { result ≡ cut most x }
 {

@@ -1,5 +1,4 @@
 -- `rules::ranges::field` meets its contract.
-use borrow.Author.Rules.{rules}
 use mir.Facts.{to_z-of_z}
 use Rattle.rules.proofs.ranges.field.Goals as goal
 

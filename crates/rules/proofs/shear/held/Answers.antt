@@ -1,8 +1,7 @@
 -- `rules::shear::held` meets its contract: no step leaves 64 bits, and the one rounding is of the whole fraction.
 use mathlib.Core.Path.{◌∙◌}
-use Prim.Native.Nat.{ℕ, ◌*◌, ◌≤◌, ◌<◌, ◌^◌}
+use Prim.Native.Nat.{ℕ, ◌*◌, ◌≤◌, ◌^◌}
 use native.Mathlib.Nat.{lt_trans}
-use borrow.Author.Rules.{rules}
 use lib.Dec.{T, ltb, ltb→lt, lit<}
 use lib.IntN.{ℤ, pos, nat_abs, ◌-ℤ◌, ◌*ℤ◌}
 use lib.Signed.{◌≤ℤ◌}
@@ -11,8 +10,6 @@ use mir.Val.{to_z, of_z}
 use Rattle.rounding.proofs.Fits.{Holds, exact, lit, kept, times, minus, sfits, cast_u, cast_s, non_neg_of, non_neg_mul, size_ge}
 use Rattle.rules.specs.Rules.{held_shear}
 use Rattle.rules.proofs.HeldShear.{shear_fraction, shear_le}
-use Rattle.rules.proofs.shear.held.Reads as reads
-use Rattle.rules.proofs.shear.held.Lts as lts
 use Rattle.rules.proofs.shear.held.Goals as goal
 use Rattle.rules.proofs.shear.held.Goals.{After-round, Start}
 
