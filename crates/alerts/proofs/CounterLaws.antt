@@ -4,7 +4,7 @@ use mathlib.Core.Bool.{Bool, true, false, cond}
 use Prim.Native.Nat.{ℕ, ◌+◌, ◌-◌, ◌*◌, ◌≤◌, ◌<◌, zero-le}
 use native.Mathlib.Nat.{le_refl}
 use native.Mathlib.Omega.{arith}
-use borrow.Author.Tests.{leb-true, leb-false}
+use borrow.Author.Tests.{leb-true, leb-false, le-leb, lt-leb}
 use lib.Dec.{ltb, leb, eqb}
 use lib.IntN.{ℤ, pos, ◌-ℤ◌}
 use lib.Signed.{lt_z, ◌≤ℤ◌, le_z_yes}
@@ -46,6 +46,17 @@ guide_is e f = rw (e, f)
 pub counted_le : (s : Sample) (frames n : ℕ) → counted s frames n ≤ n + frames
 unfolding counted
 counted_le s frames n = cond_le (climbing s) (n + frames) (λ e. le_refl (n + frames)) (λ e. zero-le)
+
+-- guidance that is on ends where the count has reached 600, and else goes on
+pub ends : (g : Guide) (s : Sample) (frames : ℕ) {n : ℕ} {r : Guide} → n ≡ counted s frames (g.count - 1) → 600 ≤ n → r ≡ no_guide
+    → r ≡ continued_of g s frames
+unfolding continued_of
+ends g s frames e le p = rw (← e, le-leb 600 _ le) p
+
+pub goes_on : (g : Guide) (s : Sample) (frames : ℕ) {n : ℕ} {r : Guide} → n ≡ counted s frames (g.count - 1) → n < 600
+    → r ≡ record { count = n + 1; command = smaller (towards frames g.command) (cap s) } → r ≡ continued_of g s frames
+unfolding continued_of
+goes_on g s frames e lt p = rw (← e, lt-leb 600 _ lt) p
 
 -- after a sample guidance is off, or has started, or goes on with a count below 600
 next_has : (P : Guide → Type 0) (g : Guide) (s : Sample) (frames : ℕ) (comes : Bool) → P no_guide → P (started_of s)

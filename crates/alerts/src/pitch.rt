@@ -89,6 +89,7 @@ fn started(s: Sample) -> Guide
 }
 
 impl Guide {
+    #[tactic(auto, using(crate::proofs::CounterLaws::ends))]
     fn continued(self, s: Sample, n: u16) -> Guide
         requires { GuideValid self × InRange s × (n ≤ 20) × (0 < self.count) }
         ensures { result ≡ continued_of self s n }
