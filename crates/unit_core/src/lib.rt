@@ -92,6 +92,7 @@ impl Core {
     }
 
     // The held shear of a sample that stands for n frames, from the change of along wind since the last accepted one.
+    #[tactic(auto, using(crate::proofs::ShearLaws::change_fits))]
     pub fn shear(self, s: Sample, n: u16) -> i32
         requires { (nat_abs self.along ≤ 20000) × InRange s × (n ≡ frames_of self s) × (frames_fit n ≡ true) }
         ensures { (result ≡ shear_of self s) × (nat_abs result ≤ 50000000) }

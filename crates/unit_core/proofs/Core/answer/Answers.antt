@@ -1,5 +1,5 @@
 -- `unit_core::Core::answer` meets its contract: what the calls ensure, and the command and the shear as they are read back.
-use mathlib.Core.Path.{◌≡◌}
+use mathlib.Core.Path.{◌≡◌, refl}
 use Prim.Native.Nat.{ℕ}
 use borrow.Author.Rules.{rules}
 use lib.IntN.{ℤ}
@@ -17,7 +17,7 @@ fields : (k : Core) (x : ℤ) {a v g : ℕ} {command shear : ℤ}
     → a ≡ alert_of k.red k.amber → v ≡ cycle k.voice → g ≡ shown_of k.guidance → command ≡ k.command → shear ≡ x
     → ◌≡◌ {A = Answer} (record { refusal = 0; alert = a; voice = v; guidance = g; command = command; shear = shear }) (answer_of k x)
 unfolding answer_of
-fields k x p q r c e = rw (p, q, r, c, e)
+fields k x p q r c e = rw (p, q, r, c, e) refl
 
 pub returns : goal.returns
 returns c =

@@ -1,4 +1,5 @@
 -- `unit_core::Core::frames` meets its contract, branch by branch.
+use mathlib.Core.Path.{refl}
 use borrow.Author.Tests.{lt-ltb, le-ltb}
 use Rattle.unit_core.specs.Core.{frames_of}
 use Rattle.unit_core.proofs.Core.frames.Goals as goal
@@ -9,4 +10,4 @@ returns-then-self-gt0 c = rw (lt-ltb _ _ c.before.if-self-gt0.true) c.elapsed.en
 
 pub returns : goal.returns
 unfolding frames_of
-returns c = rw (le-ltb _ _ c.if-self-gt0.false)
+returns c = rw (le-ltb _ _ c.if-self-gt0.false) refl

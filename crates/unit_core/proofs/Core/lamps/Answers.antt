@@ -1,5 +1,5 @@
 -- `unit_core::Core::lamps` meets its contract: what the calls ensure.
-use mathlib.Core.Path.{◌≡◌}
+use mathlib.Core.Path.{◌≡◌, refl}
 use mir.Facts.{to_z-of_z}
 use Rattle.rules.specs.Rules.{inside, band}
 use Rattle.unit_core.specs.Core.{lamps_of}
@@ -25,3 +25,4 @@ returns c =
       up.before.met.ensures,
       b,
     )
+    refl

@@ -1,24 +1,18 @@
--- `unit_core::Core::shear` meets its contract: the change of along wind fits, and the call gives the held shear with its bound.
-use mathlib.Core.Path.{◌∙◌}
+-- `unit_core::Core::shear` meets its contract: the change of along wind is in range, and the call gives the held shear with its bound.
+use mathlib.Core.Path.{◌≡◌, ◌∙◌}
 use Prim.Native.Nat.{ℕ, ◌≤◌}
 use borrow.Author.Tests.{lt-ltb, le-ltb}
 use lib.Dec.{lit<, lit≤}
 use lib.IntN.{ℤ, pos, nat_abs, ◌-ℤ◌}
 use lib.Signed.{◌≤ℤ◌}
 use mir.Syntax.{w32}
-use mir.Val.{to_z, of_z}
 use mir.Facts.{to_z-of_z}
 use Rattle.frames.proofs.FrameLaws.{fit_bounds}
-use Rattle.rounding.proofs.Fits.{Holds, exact, kept, minus, sfits}
+use Rattle.rounding.proofs.Fits.{Holds, exact, kept}
+use Rattle.rules.specs.Rules.{held_shear}
 use Rattle.unit_core.specs.Core.{shear_of}
+use Rattle.unit_core.proofs.ShearLaws.{back, change}
 use Rattle.unit_core.proofs.Core.shear.Goals as goal
-
--- a value of 32 bits as it is read back, and the difference of two
-abbrev back : ℤ → ℤ
-back x = to_z w32 (of_z w32 x)
-
-change : (x y : ℤ) → nat_abs x ≤ 20000 → nat_abs y ≤ 20000 → Holds (back x -ℤ back y) (x -ℤ y) 40000
-change x y h k = minus (kept w32 (exact x h) (lit< tt)) (kept w32 (exact y k) (lit< tt))
 
 size : {g x : ℤ} {m : ℕ} → Holds g x m → nat_abs g ≤ m
 size h = rw h.is h.le
@@ -30,19 +24,6 @@ fields v a hv ge ha =
     let r = kept w32 (exact a ha) (lit< tt) in
     (size (kept w32 (exact v hv) (lit< tt)), rw r.is ge, size r)
 
-pub overflow_sub-s : goal.overflow_sub-s
-overflow_sub-s c =
-    let k = c.before.before.before.before.before.before.before.before in
-    sfits w32 (change k.args.s.along k.args.self.along k.requires.1.along_le k.requires.0) (lit< tt)
-
-pub held-requires : goal.held-requires
-held-requires c =
-    let k = c.before.before.before.before.before.before.before.before in
-    let r = k.requires.1 in
-    let f = fields k.args.s.vertical k.args.s.airspeed r.vertical_le r.airspeed_ge r.airspeed_le in
-    let n = fit_bounds k.args.n k.requires.3 in
-    (size (kept w32 (change k.args.s.along k.args.self.along r.along_le k.requires.0) (lit< tt)), f.0, f.1, f.2, n.0, n.1)
-
 -- the call's result as it is read back
 pub returns-then-self-gt0 : goal.returns-then-self-gt0
 unfolding shear_of
@@ -53,15 +34,18 @@ returns-then-self-gt0 c =
     let v = kept w32 (exact k.args.s.vertical r.vertical_le) (lit< tt) in
     let a = kept w32 (exact k.args.s.airspeed r.airspeed_le) (lit< tt) in
     let e = to_z-of_z {w = w32} (record { sfits = c.held.type_inv }) in
-    (e ∙ c.held.ensures.0 ∙ rw (d.is, v.is, a.is, ← k.requires.2, lt-ltb _ _ c.before.before.before.before.before.if-self-gt0.true), rw e c.held.ensures.1)
+    let told
+    : c.held.result ≡ held_shear (back (back k.args.s.along -ℤ back k.args.self.along)) k.args.n (back k.args.s.vertical) (back k.args.s.airspeed)
+    = c.held.ensures.0 in
+    (e ∙ told ∙ rw (d.is, v.is, a.is, ← k.requires.2, lt-ltb _ _ c.before.before.before.before.before.if-self-gt0.true), rw e c.held.ensures.1)
 
-pub held-requires-2 : goal.held-requires-2
-held-requires-2 c =
-    let k = c.before.before.before.before in
+pub held-requires : goal.held-requires
+held-requires c =
+    let k = c.before.before.before.before.before.before.before.before in
     let r = k.requires.1 in
     let f = fields k.args.s.vertical k.args.s.airspeed r.vertical_le r.airspeed_ge r.airspeed_le in
     let n = fit_bounds k.args.n k.requires.3 in
-    (lit≤ tt, f.0, f.1, f.2, n.0, n.1)
+    (size (kept w32 (change k.args.s.along k.args.self.along r.along_le k.requires.0) (lit< tt)), f.0, f.1, f.2, n.0, n.1)
 
 pub returns : goal.returns
 unfolding shear_of
@@ -72,3 +56,11 @@ returns c =
     let a = kept w32 (exact k.args.s.airspeed r.airspeed_le) (lit< tt) in
     let e = to_z-of_z {w = w32} (record { sfits = c.held-2.type_inv }) in
     (e ∙ c.held-2.ensures.0 ∙ rw (v.is, a.is, ← k.requires.2, le-ltb _ _ c.before.if-self-gt0.false), rw e c.held-2.ensures.1)
+
+pub held-requires-2 : goal.held-requires-2
+held-requires-2 c =
+    let k = c.before.before.before.before in
+    let r = k.requires.1 in
+    let f = fields k.args.s.vertical k.args.s.airspeed r.vertical_le r.airspeed_ge r.airspeed_le in
+    let n = fit_bounds k.args.n k.requires.3 in
+    (lit≤ tt, f.0, f.1, f.2, n.0, n.1)

@@ -1,4 +1,5 @@
 -- `unit_core::Core::voice` meets its contract: what the calls ensure.
+use mathlib.Core.Path.{refl}
 use borrow.Author.Rules.{rules}
 use mir.Syntax.{w32}
 use mir.Val.{SFits}
@@ -17,4 +18,4 @@ returns c =
     let last = f.0 in
     let mode = f.1 in
     let e = simp to_z-of_z at c.before.before.before.before.changed-change.ensures in
-    simp to_z-of_z (rw (c.before.next.ensures, c.before.before.before.kept.ensures, e))
+    simp to_z-of_z (rw (c.before.next.ensures, c.before.before.before.kept.ensures, e) refl)
