@@ -8,6 +8,19 @@ use Rattle.unit.specs.Steps.{beside}
 use Rattle.unit.proofs.StepLaws.{leans, entry_fits_lem, guide_kept, chain, promised}
 use Rattle.unit.proofs.listed.Goals as goal
 
+pub returns : goal.returns
+returns c =
+    let before = beside c.args.held.now c.args.core in
+    let x : SFits w32 c.shear-y.result = record { sfits = c.shear-y.type_inv } in
+    let y : SFits w32 c.entry-cut.result = record { sfits = c.entry-cut.type_inv } in
+    let h : SFits w32 c.args.s.height = search rules in
+    let entry = simp to_z-of_z at c.entry-cut.ensures in
+    let entered = simp to_z-of_z at c.entered-full.ensures in
+    let lit = simp to_z-of_z at c.lamps-shown.ensures in
+    let a = simp to_z-of_z at c.answer.ensures in
+    promised before c.args.s c.requires
+    (chain before c.args.s c.frames-m.ensures c.shear-y.ensures.0 entry entered lit c.voice-heard.ensures c.pitch-last.ensures a)
+
 pub shear-y-requires : goal.shear-y-requires
 shear-y-requires c =
     let a = leans (beside c.args.held.now c.args.core) c.args.s c.requires in
@@ -27,16 +40,3 @@ pitch-last-requires c =
       a.1,
       rw c.frames-m.ensures (fit_bounds _ a.2).1,
     )
-
-pub returns : goal.returns
-returns c =
-    let before = beside c.args.held.now c.args.core in
-    let x : SFits w32 c.shear-y.result = record { sfits = c.shear-y.type_inv } in
-    let y : SFits w32 c.entry-cut.result = record { sfits = c.entry-cut.type_inv } in
-    let h : SFits w32 c.args.s.height = search rules in
-    let entry = simp to_z-of_z at c.entry-cut.ensures in
-    let entered = simp to_z-of_z at c.entered-full.ensures in
-    let lit = simp to_z-of_z at c.lamps-shown.ensures in
-    let a = simp to_z-of_z at c.answer.ensures in
-    promised before c.args.s c.requires
-    (chain before c.args.s c.frames-m.ensures c.shear-y.ensures.0 entry entered lit c.voice-heard.ensures c.pitch-last.ensures a)

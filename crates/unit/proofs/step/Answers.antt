@@ -8,6 +8,19 @@ use Rattle.unit.specs.Steps.{beside}
 use Rattle.unit.proofs.StepLaws.{leans, entry_fits_lem, guide_kept, chain, promised}
 use Rattle.unit.proofs.step.Goals as goal
 
+pub returns : goal.returns
+returns c =
+    let before = beside c.args.held.now c.args.core in
+    let x : SFits w32 c.shear-x.result = record { sfits = c.shear-x.type_inv } in
+    let y : SFits w32 c.entry-entry.result = record { sfits = c.entry-entry.type_inv } in
+    let h : SFits w32 c.args.s.height = search rules in
+    let entry = simp to_z-of_z at c.entry-entry.ensures in
+    let entered = simp to_z-of_z at c.entered-filled.ensures in
+    let lit = simp to_z-of_z at c.lamps-lit.ensures in
+    let a = simp to_z-of_z at c.answer.ensures in
+    promised before c.args.s c.requires
+    (chain before c.args.s c.frames-n.ensures c.shear-x.ensures.0 entry entered lit c.voice-spoken.ensures c.pitch-end.ensures a)
+
 pub shear-x-requires : goal.shear-x-requires
 shear-x-requires c =
     let a = leans (beside c.args.held.now c.args.core) c.args.s c.requires in
@@ -27,16 +40,3 @@ pitch-end-requires c =
       a.1,
       rw c.frames-n.ensures (fit_bounds _ a.2).1,
     )
-
-pub returns : goal.returns
-returns c =
-    let before = beside c.args.held.now c.args.core in
-    let x : SFits w32 c.shear-x.result = record { sfits = c.shear-x.type_inv } in
-    let y : SFits w32 c.entry-entry.result = record { sfits = c.entry-entry.type_inv } in
-    let h : SFits w32 c.args.s.height = search rules in
-    let entry = simp to_z-of_z at c.entry-entry.ensures in
-    let entered = simp to_z-of_z at c.entered-filled.ensures in
-    let lit = simp to_z-of_z at c.lamps-lit.ensures in
-    let a = simp to_z-of_z at c.answer.ensures in
-    promised before c.args.s c.requires
-    (chain before c.args.s c.frames-n.ensures c.shear-x.ensures.0 entry entered lit c.voice-spoken.ensures c.pitch-end.ensures a)
