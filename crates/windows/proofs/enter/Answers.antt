@@ -27,6 +27,24 @@ moved : (entries : List ℤ) {x : ℤ} → SFits w32 x → (n : ℕ) (s : ℤ) {
     → r ≡ moved_of n entries (to_z w32 (of_z w32 x)) (to_z w64 (of_z w64 s)) → to_z w64 (of_z w64 r) ≡ moved_of n entries x s
 moved entries f n s h ok e = to_z-of_z {w = w64} (record { sfits = ok }) ∙ e ∙ rw (to_z-of_z (fits s h), to_z-of_z f)
 
+pub returns : goal.returns
+unfolding moved_sums
+returns c =
+    let entries = read_from c.args.p c.args.held.now in
+    let x = c.ranges.x in
+    let sums = c.args.sums in
+    let small = c.requires.0 in (
+      rw (
+        moved entries x 200 sums.s200 small.s200 c.moved.type_inv c.moved.ensures,
+        moved entries x 180 sums.s180 small.s180 c.moved-2.type_inv c.moved-2.ensures,
+        moved entries x 160 sums.s160 small.s160 c.moved-3.type_inv c.moved-3.ensures,
+        moved entries x 140 sums.s140 small.s140 c.moved-4.type_inv c.moved-4.ensures,
+        moved entries x 120 sums.s120 small.s120 c.moved-5.type_inv c.moved-5.ensures,
+        moved entries x 100 sums.s100 small.s100 c.moved-6.type_inv c.moved-6.ensures,
+      ),
+      rw (to_z-of_z c.ranges.x, c.back-q.ensures.0),
+    )
+
 pub moved-requires : goal.moved-requires
 moved-requires c =
     asked c.args.held.now 200 c.requires.1 c.requires.2 (lit< tt) (lit≤ tt) c.args.sums.s200 c.requires.0.s200
@@ -59,21 +77,3 @@ offset_bounds-held-q c = omega (arith, c.back-q.ensures.1)
 
 pub bounds-held-q : goal.bounds-held-q
 bounds-held-q c = c.back-q.ensures.1
-
-pub returns : goal.returns
-unfolding moved_sums
-returns c =
-    let entries = read_from c.args.p c.args.held.now in
-    let x = c.ranges.x in
-    let sums = c.args.sums in
-    let small = c.requires.0 in (
-      rw (
-        moved entries x 200 sums.s200 small.s200 c.moved.type_inv c.moved.ensures,
-        moved entries x 180 sums.s180 small.s180 c.moved-2.type_inv c.moved-2.ensures,
-        moved entries x 160 sums.s160 small.s160 c.moved-3.type_inv c.moved-3.ensures,
-        moved entries x 140 sums.s140 small.s140 c.moved-4.type_inv c.moved-4.ensures,
-        moved entries x 120 sums.s120 small.s120 c.moved-5.type_inv c.moved-5.ensures,
-        moved entries x 100 sums.s100 small.s100 c.moved-6.type_inv c.moved-6.ensures,
-      ),
-      rw (to_z-of_z c.ranges.x, c.back-q.ensures.0),
-    )
