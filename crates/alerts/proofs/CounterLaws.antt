@@ -23,9 +23,7 @@ cond_le t m = cond_has (λ (n : ℕ). n ≤ m) t
 
 pub lamp_le : (n frames : ℕ) (on : Bool) → lamp_next n frames on ≤ 60
 unfolding lamp_next
-lamp_le n frames on =
-    cond_le (eqb n 0) 60 (λ e. cond_le on 60 (λ k. omega arith) (λ k. zero-le))
-    (λ e. cond_le (leb (n + frames) 60) 60 (λ k. leb-true (n + frames) 60 k) (λ k. cond_le on 60 (λ j. le_refl 60) (λ j. zero-le)))
+lamp_le n frames on = grind arith
 
 pub unless_le : (red amber : ℕ) → unless_lit red amber ≤ amber
 unfolding unless_lit
