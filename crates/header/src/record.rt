@@ -8,6 +8,7 @@ pub const SIZE: usize = 24;
 pub const SIZE_2: usize = 26;
 
 // How many bytes a version's record has.
+#[tactic(auto, unfolding(crate::specs::Header::record_size))]
 pub fn size(version: u32) -> usize
     ensures { result ≡ record_size version }
 {
