@@ -63,6 +63,7 @@ fn whole_size(u: &[u8]) -> Size
     digits(u, 0)
 }
 
+#[tactic(auto, using(crate::proofs::SizeLaws::knots_short, crate::proofs::SizeLaws::no_point))]
 fn knots_size(u: &[u8]) -> Size
     ensures { result ≡ cut_size (knots_size u.now) }
 {

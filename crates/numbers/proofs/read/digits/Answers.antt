@@ -23,7 +23,7 @@ returns-then-b-gt57 c =
     sym (digits_high l.loop-i.n l.before.before.args.s.now l.loop-i.i (search rules) (omega (arith, c.if-b-gt57.true))) ∙ l.loop-i.invariant.1.1
 
 pub longer-n-requires : goal.longer-n-requires
-longer-n-requires c = (c.before.before.before.before.loop-i.invariant.1.0, search rules)
+longer-n-requires c = (c.before.before.before.before.loop-i.invariant.1.0, omega arith)
 
 pub loop-i-preserved : goal.loop-i-preserved
 loop-i-preserved c =

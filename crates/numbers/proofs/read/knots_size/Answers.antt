@@ -3,14 +3,8 @@ use mathlib.Core.Path.{sym, ◌∙◌}
 use native.Mathlib.Omega.{arith}
 use borrow.Author.Rules.{part_to_end}
 use lib.Seq.{length-take-le}
-use Rattle.numbers.proofs.SizeLaws.{knots_short, no_point, front_bad, knots_is, size-le}
+use Rattle.numbers.proofs.SizeLaws.{front_bad, knots_is, size-le}
 use Rattle.numbers.proofs.read.knots_size.Goals as goal
-
-pub returns-then-n-lt4 : goal.returns-then-n-lt4
-returns-then-n-lt4 c = knots_short _ (omega (arith, c.if-n-lt4.true))
-
-pub returns-then-u-n-ne46 : goal.returns-then-u-n-ne46
-returns-then-u-n-ne46 c = no_point c.before.before.before.before.args.u.now (λ e. omega (arith, c.if-u-n-ne46.true))
 
 pub slice_bounds-digits-length : goal.slice_bounds-digits-length
 slice_bounds-digits-length c = sym (length-take-le _ _ (omega arith))
