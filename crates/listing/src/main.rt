@@ -8,7 +8,7 @@ ghost use Rattle.catalog.specs.Listing.{listing_of, most_read};
 
 use header::record;
 use std::env::{Env, FillError};
-use std::io::{Error, ErrorKind, Read, Stdin, Write};
+use std::io::{Error, ErrorKind, Read, Stdin, Stdout, Write};
 use std::rt::HostRuntime;
 
 // The header, 2,600 lines and the totals, 64 bytes each.
@@ -79,10 +79,24 @@ fn fail(rt: HostRuntime, what: &str, error: Error) {
     let _ = eprintln!(rt; "{what}: {why}");
 }
 
+// Writes all of it, or says why a write failed. One that a signal interrupts or that takes nothing has failed.
+fn write_whole(stdout: Stdout, listing: &[u8]) -> Result<(), Error> {
+    let mut to = stdout;
+    let mut done: usize = 0;
+    while done < listing.len() {
+        let n = to.write(&listing[done..])?;
+        if n == 0 {
+            return Err(Error::from(ErrorKind::WriteZero));
+        }
+        done += n;
+    }
+    Ok(())
+}
+
 fn print_listing(rt: HostRuntime, file: &[u8]) {
     let mut out = [0u8; ROOM];
     let n = whole_listing(file, &mut out);
-    if let Err(e) = rt.stdout().write_all(&out[..n]) {
+    if let Err(e) = write_whole(rt.stdout(), &out[..n]) {
         fail(rt, "listing: the listing can't be written whole", e);
     }
 }
