@@ -792,7 +792,8 @@ const SOURCES: [&str; 7] = [
 /// A copy of the repository's outside: two crates below `host`, `host_c` above it and one beside it, with an `rt` and a `cargo` that say what they are
 /// asked, and in which folder, and fail at what the file `fails` has. The command that is built says its arguments and its input, and ends with 7.
 fn repository(name: &str) -> Shop {
-    let shop = Shop::new(name);
+    // outside the checkout, in which rt takes no second crates.txt and no source that no crate has
+    let shop = Shop(empty(std::env::temp_dir().join(format!("windshear-{name}-{}", std::process::id()))));
     let put = |name: &str, content: &str| {
         let path = shop.0.join(name);
         fs::create_dir_all(path.parent().unwrap()).unwrap();
@@ -896,6 +897,7 @@ fn the_script_builds_what_is_missing_and_then_runs_it() {
     cases.push(("the first", without_seconds(ended(child)), left(7, "first \n", &said(5))));
     cases.push(("changed meanwhile", called(), ran(true)));
     compare(cases, "calls of the script");
+    fs::remove_dir_all(&shop.0).unwrap();
 }
 
 #[test]
@@ -916,6 +918,7 @@ fn the_script_names_a_program_that_is_missing_before_it_proves() {
     }
     compare(cases, "programs that are missing");
     assert!(!shop.0.join("asked").exists());
+    fs::remove_dir_all(&shop.0).unwrap();
 }
 
 #[test]
@@ -927,6 +930,7 @@ fn two_calls_of_the_script_build_once() {
     assert_eq!(left.iter().filter(|left| !left.said.is_empty()).count(), 1);
     assert_eq!(string(shop.read("asked")).lines().count(), 5);
     println!("compared 4 calls at once");
+    fs::remove_dir_all(&shop.0).unwrap();
 }
 
 #[test]
