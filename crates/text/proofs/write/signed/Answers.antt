@@ -30,7 +30,9 @@ sign-p-requires c =
     omega (arith, s.requires, signed_by_length decimal s.args.x, decimal_some (nat_abs s.args.x))
 
 pub number-requires : goal.number-requires
-number-requires c = rw (size c.before.before.before) (room (after c.before.before.before))
+number-requires c =
+    let k = c.before.before.before in
+    rw (size k) (omega (arith, room (after k), (after k).is.0))
 
 pub returns : goal.returns
 unfolding signed
