@@ -17,7 +17,7 @@ use Rattle.text.proofs.TextLaws.{absent_signed, absent_knots}
 use Rattle.rules.specs.Choice.{AllOf}
 use Rattle.rules.specs.declared.Sample.{Sample}
 use Rattle.exchange.specs.Claims.{fewest, PlainFields}
-use Rattle.csv_rows.specs.Csv.{Numbers, malformed, are, speeds, comma, quote, lf, number_in, and_then, numbers_of, sample_from, numbers_in}
+use Rattle.csv_rows.specs.Csv.{Numbers, speeds, comma, quote, lf, number_in, and_then, numbers_of, sample_from, numbers_in}
 use Rattle.export.specs.Export.{number_text, field_texts}
 use Rattle.exchange.proofs.JoinLaws.{Some, Field}
 

@@ -1,5 +1,4 @@
 -- `host::windshear_export` meets its contract: it promises what `export` does.
-use borrow.Author.Rules.{rules}
 use Rattle.host.proofs.windshear_export.Goals as goal
 
 pub returns : goal.returns

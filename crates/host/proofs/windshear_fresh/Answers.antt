@@ -1,5 +1,4 @@
 -- `host::windshear_fresh` meets its contract: it promises what `State::fresh` does.
-use borrow.Author.Rules.{rules}
 use Rattle.unit_core.specs.Core.{fresh_core}
 use Rattle.unit.specs.Steps.{fresh_state}
 use Rattle.host.proofs.windshear_fresh.Goals as goal

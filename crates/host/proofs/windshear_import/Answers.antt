@@ -1,5 +1,4 @@
 -- `host::windshear_import` meets its contract: it promises what `import` does.
-use borrow.Author.Rules.{rules}
 use Rattle.host.proofs.windshear_import.Goals as goal
 
 pub returns : goal.returns

@@ -1,5 +1,4 @@
 -- `host::windshear_list` meets its contract: it promises what `listing` does.
-use borrow.Author.Rules.{rules}
 use Rattle.host.proofs.windshear_list.Goals as goal
 
 pub returns : goal.returns

@@ -1,5 +1,4 @@
 -- `host::windshear_offer` meets its contract: it promises what `State::offer` does.
-use borrow.Author.Rules.{rules}
 use Rattle.host.proofs.windshear_offer.Goals as goal
 
 pub returns : goal.returns

@@ -1,5 +1,4 @@
 -- `host::windshear_read_record` meets its contract: it promises what `record_at` does.
-use borrow.Author.Rules.{rules}
 use Rattle.host.proofs.windshear_read_record.Goals as goal
 
 pub returns : goal.returns

@@ -1,5 +1,4 @@
 -- `host::windshear_run` meets its contract: it promises what `run` does.
-use borrow.Author.Rules.{rules}
 use Rattle.host.proofs.windshear_run.Goals as goal
 
 pub returns : goal.returns

@@ -1,5 +1,4 @@
 -- `host::windshear_write_record` meets its contract: it promises what `write` does.
-use borrow.Author.Rules.{rules}
 use Rattle.host.proofs.windshear_write_record.Goals as goal
 
 pub returns : goal.returns
