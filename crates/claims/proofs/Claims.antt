@@ -62,7 +62,7 @@ next_passing : (t : State) (s : Sample) → Passing t → refusal s ≡ 0 → Pa
 unfolding ranges accept_of entry_of windows_of core_with shown_by lamps_of voice_of pitch_of guide_of held_fits
 next_passing t s p h =
     let f = in_range_fields s h in
-    let ring : RingValid t = record { held_in = p.held_in; ring_fits_lem = p.ring_fits_lem } in
+    let ring : RingValid t = record { held_in = p.held_in; ring_in = p.ring_in } in
     record {
       held_in = (times_valid (frames_of t.core s) t (entry_of t.core s) (cut_fits (shear_of t.core s)) ring).held_in;
       seen_le = lit≤ tt;
@@ -73,7 +73,7 @@ next_passing t s p h =
       command_in_lem = within_of (command_ge _ s _ _ (bounds p.command_in_lem).0 (inside_bounds f.pitch_in).0 (inside_bounds f.stall_in).0) (command_le _ s _ _);
       along_in = f.along_in;
       mode_in = f.mode_in;
-      ring_fits_lem = fits_holds.fits (accept_of t s).state _ (accept_holds t s _ (fits_holds.holds t p.ring_fits_lem));
+      ring_in = fits_holds.fits (accept_of t s).state _ (accept_holds t s _ (fits_holds.holds t p.ring_in));
     }
 
 pub left_passes : LeftPasses

@@ -156,17 +156,17 @@ last_alert [] = 0
 last_alert (s ∷ before) = cond (eqb (refusal_after s (accepted before)) 0) (answer_to s before).alert (last_alert before)
 
 -- "For every list of samples, offered one after another from a fresh start, whatever they hold and with refused ones among them, this is so at each
--- accepted one": at the accepted sample s, by a table of windows, with the accepted samples before it. `wasRed` is whether red was lit at the one
+-- accepted one": at the accepted sample s, by a table of windows, with the accepted samples before it. `was_red` is whether red was lit at the one
 -- before (false where there was none), `red` whether it is lit at this one, `shown` whether the command is shown. It says nothing of counters or
 -- arrays: averages come from the list.
-pub record Demand3At (table : List Window) (s : Sample) (before : List Sample) (wasRed red shown : Bool) (command : ℤ) : Type 0 where
+pub record Demand3At (table : List Window) (s : Sample) (before : List Sample) (was_red red shown : Bool) (command : ℤ) : Type 0 where
   -- what the averages and the table values are: fractions as 01 has them
   pub positive : (w : Window) → Memᴰ w table → PositiveDivisors (s ∷ before) w
   -- "With height from 50 to 1,000 feet, the red lamp is lit if any average is at least its table value plus 0.000005."
   pub lit : (w : Window) → Memᴰ w table → in_band s ≡ true → Reaches (s ∷ before) w → red ≡ true
   -- "If every average is below its table value by more than 0.000005, or the height is outside that band, a dark red lamp stays dark; it is dark at
   -- the start."
-  pub dark : wasRed ≡ false → (in_band s ≡ false) ⊎ ((w : Window) → Memᴰ w table → Below (s ∷ before) w) → red ≡ false
+  pub dark : was_red ≡ false → (in_band s ≡ false) ⊎ ((w : Window) → Memᴰ w table → Below (s ∷ before) w) → red ≡ false
   -- "The pitch command, whenever shown, is never above 27 degrees nor above that sample's stall-warning pitch."
   pub capped : shown ≡ true → (command ≤ℤ pos 27000) × (command ≤ℤ s.stall)
 

@@ -70,12 +70,12 @@ module _ (s : Sample) (before : List Sample) (alert : ℕ) (e : alert ≡ alert_
   guaranteed_at =
       record {
         red = λ r m h b. red_shown (red_at_row r m s before h b);
-        never-red = λ h. red_dark (red_never (s ∷ before) h);
+        never_red = λ h. red_dark (red_never (s ∷ before) h);
         amber = λ r m h b k.
             let dark = not_two (red_lit (s ∷ before)) (amber_lit (s ∷ before)) (λ two. k (e ∙ two)) in
             e ∙ rw (dark, amber_at_row r m s before h b dark);
-        never-amber = λ h one. dark_one (red_lit (s ∷ before)) (rw (amber_never (s ∷ before) h) at (sym e ∙ one));
-        no-alert = λ h k. e ∙ rw (red_never (s ∷ before) h, amber_never (s ∷ before) k);
+        never_amber = λ h one. dark_one (red_lit (s ∷ before)) (rw (amber_never (s ∷ before) h) at (sym e ∙ one));
+        no_alert = λ h k. e ∙ rw (red_never (s ∷ before) h, amber_never (s ∷ before) k);
       }
 
 -- ════ Two answers ════
@@ -97,7 +97,7 @@ module _ (s t : Sample) (one other : List Sample) (at_least_lem : AtLeast (s ∷
       (red_shown s one a shown-a (red_lit_lem s one (red_in_order (s ∷ one) (t ∷ other) at_least_lem c)), red_shown t other b shown_b (red_lit_lem t other c))
 
   in_order_at : (last : ℕ) → (¬ (last ≡ 2) → red_lit other ≡ false) → InOrderAt t other a b last
-  in_order_at last dark = record { holds = both_red; comes_on_lem = λ k two. go (dark k) two (red_condition (t ∷ other)) refl }
+  in_order_at last dark = record { holds = both_red; comes_on = λ k two. go (dark k) two (red_condition (t ∷ other)) refl }
     where
       go : red_lit other ≡ false → b ≡ 2 → (c : Bool) → red_condition (t ∷ other) ≡ c → a ≡ 2
       go d two true e = (both_red e).0

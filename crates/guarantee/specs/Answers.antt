@@ -19,13 +19,13 @@ pub record GuaranteedAt (s : Sample) (before : List Sample) (alert : ℕ) : Type
   -- "red is lit at that end"
   pub red : (r : TestRow) → Memᴰ r alert_rows → ReachesRow r (entries held (s ∷ before)) → in_band s ≡ true → alert ≡ 2
   -- "red never comes on"
-  pub never-red : NoneAbove quiet_limit (entries held (s ∷ before)) → ¬ (alert ≡ 2)
+  pub never_red : NoneAbove quiet_limit (entries held (s ∷ before)) → ¬ (alert ≡ 2)
   -- "The same with signs turned for amber, where red is dark."
   pub amber :
       (r : TestRow) → Memᴰ r alert_rows → ReachesRow r (turned (entries held (s ∷ before))) → in_band s ≡ true → ¬ (alert ≡ 2) → alert ≡ 1
-  pub never-amber : NoneAbove quiet_limit (turned (entries held (s ∷ before))) → ¬ (alert ≡ 1)
+  pub never_amber : NoneAbove quiet_limit (turned (entries held (s ∷ before))) → ¬ (alert ≡ 1)
   -- so where both are so, "no alert", as in 000's first two rows
-  pub no-alert : NoneAbove quiet_limit (entries held (s ∷ before)) → NoneAbove quiet_limit (turned (entries held (s ∷ before))) → alert ≡ 0
+  pub no_alert : NoneAbove quiet_limit (entries held (s ∷ before)) → NoneAbove quiet_limit (turned (entries held (s ∷ before))) → alert ≡ 0
 
 -- Two runs, the one `AtLeast` the other up to here: t and `other` are the other's samples; alert1 is the one's alert here, alert2 the other's, and
 -- before2 the other's at the accepted sample before (0 where there was none).
@@ -33,7 +33,7 @@ pub record InOrderAt (t : Sample) (other : List Sample) (alert1 alert2 before2 :
   -- where the red condition holds in the other, both show red (`RedInOrder`: it holds in the one too)
   pub holds : red_condition (t ∷ other) ≡ true → (alert1 ≡ 2) × (alert2 ≡ 2)
   -- so where red comes on in the other, the one shows red
-  pub comes_on_lem : ¬ (before2 ≡ 2) → alert2 ≡ 2 → alert1 ≡ 2
+  pub comes_on : ¬ (before2 ≡ 2) → alert2 ≡ 2 → alert1 ≡ 2
 
 -- ════ Samples offered alone ════
 

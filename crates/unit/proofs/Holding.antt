@@ -245,7 +245,7 @@ unfolding held_fits push_of
 push_valid t x f v =
     record {
       held_in = every_set entry_fits t.held (back_of t.core.place) x v.held_in f;
-      ring_fits_lem = holds_ring (push_of t x) _ (push_holds t _ x (ring_holds t v.ring_fits_lem));
+      ring_in = holds_ring (push_of t x) _ (push_holds t _ x (ring_holds t v.ring_in));
     }
 
 pub times_valid : (n : ℕ) (t : State) (x : ℤ) → entry_fits x ≡ true → RingValid t → RingValid (push_times n t x)

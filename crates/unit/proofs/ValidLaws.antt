@@ -54,7 +54,7 @@ pub record RingHolds (t : State) : Type 0 where
 pub ring_holds : (t : State) → RingValid t → RingHolds t
 unfolding read_from held_fits
 ring_holds t v =
-    let h = fits_holds.holds t v.ring_fits_lem in
+    let h = fits_holds.holds t v.ring_in in
     let place = t.core.place in
     let all = every_turn _ place t.held ∙ v.held_in in
     record { long = h.long; on_ring = h.on_ring; sums_le = rw h.sums (sums_within (read_from place t.held) (read_length t.held place h.long h.on_ring) all) }
@@ -64,7 +64,7 @@ unfolding ranges guide_of held_fits
 valid t e =
     let p = passing t e in
     record {
-      ring = record { held_in = p.held_in; ring_fits_lem = p.ring_fits_lem };
+      ring = record { held_in = p.held_in; ring_in = p.ring_in };
       along_le = size-le 20000 (inside_bounds p.along_in) tt tt;
       guide = record { count_le = p.guidance_le; command_le = size-le 30000 (bounds p.command_in_lem) tt tt };
     }

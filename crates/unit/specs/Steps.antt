@@ -78,7 +78,7 @@ PlainPromise t s a u = ◌≡◌ {A = Offered} (record { answer = a; state = u }
 -- a ring that passes 8, which an entry may come into
 pub record RingValid (t : State) : Type 0 where
   pub held_in : held_fits t.held ≡ true
-  pub ring_fits_lem : ring_fits t ≡ true
+  pub ring_in : ring_fits t ≡ true
 
 -- a state that passes, as far as the arithmetic leans on it
 pub record Valid (t : State) : Type 0 where
