@@ -1,3 +1,4 @@
 pub mod Choice
 pub mod Rules
 pub mod Needs
+pub mod Refusal
