@@ -3,19 +3,21 @@
 
 ghost use Rattle.std.specs.Prelude.{◌≡◌, true, ◌≤◌, nat_abs};
 ghost use Rattle.alerts.specs.Counters.{GuideValid};
-ghost use Rattle.unit_core.specs.Core.{fresh_core, frames_of, shear_of, lamps_of, voice_of, guide_of, pitch_of, answer_of};
+ghost use Rattle.unit_core.specs.Core.{fresh_core, frames_of, shear_of, lamps_of, voice_of, guide_of, pitch_of, answer_of, refusal_by};
 ghost use Rattle.frames.specs.Frames.{frames_fit};
 ghost use Rattle.rules.specs.Needs.{InRange};
+ghost use Rattle.rules.specs.Refusal.{number_of};
 
 pub mod ranges;
 
 use alerts::{lamps, pitch, voice};
+use rules::refusal::Refusal;
 use rules::{Sample, shear};
 use windows::Sums;
 
 // What the unit keeps from sample to sample, beside the ring's entries. A field may hold any value; refusal 8 has the limits.
 #[repr(C)]
-#[derive(Clone, Copy)]
+#[derive(Clone, Copy, Debug, Default, PartialEq, Eq)]
 pub struct Core {
     // each window's running sum
     pub sums: Sums,
@@ -41,7 +43,7 @@ pub struct Core {
 
 // What a sample is answered. `refusal` is 0 where it was accepted; else it is the first number that fits, and the other fields are 0.
 #[repr(C)]
-#[derive(Clone, Copy)]
+#[derive(Clone, Copy, Debug, PartialEq, Eq)]
 pub struct Answer {
     pub refusal: u16,
     // 0 none, 1 amber, 2 red
@@ -55,33 +57,15 @@ pub struct Answer {
 
 impl Core {
     // The core of the state that has seen no sample.
+    #[tactic(auto, unfolding(crate::specs::Core::fresh_core))]
     pub fn fresh() -> Core
         ensures { result ≡ fresh_core }
     {
-        let sums = Sums {
-            s200: 0,
-            s180: 0,
-            s160: 0,
-            s140: 0,
-            s120: 0,
-            s100: 0,
-        };
-        Core {
-            sums: sums,
-            along: 0,
-            mode: 0,
-            command: 0,
-            seen: 0,
-            red: 0,
-            amber: 0,
-            voice: 0,
-            guidance: 0,
-            place: 0,
-            frame: 0,
-        }
+        Core::default()
     }
 
     // The frames that a sample stands for: those elapsed since the last accepted one; one at the first.
+    #[tactic(auto, unfolding(crate::specs::Core::frames_of))]
     pub fn frames(self, s: Sample) -> u16
         ensures { result ≡ frames_of self s }
     {
@@ -89,6 +73,14 @@ impl Core {
             return frames::elapsed(s.frame, self.frame);
         }
         1
+    }
+
+    // 11 to 21, the first that fits a sample after those that the core has seen (02, A6).
+    #[tactic(auto, unfolding(crate::specs::Core::refusal_by))]
+    pub fn check(self, s: Sample) -> Result<(), Refusal>
+        ensures { number_of result ≡ refusal_by self s }
+    {
+        s.check_for(self.frames(s))
     }
 
     // The held shear of a sample that stands for n frames, from the change of along wind since the last accepted one.
@@ -109,15 +101,16 @@ impl Core {
         ensures { result ≡ lamps_of self height n }
     {
         let sums = self.sums;
-        let band = rules::ranges::between(50, height, 1000);
-        let up = rules::ranges::both(band, sums.met(true));
-        let down = rules::ranges::both(band, sums.met(false));
+        let band = (50..=1000).contains(&height);
+        let up = band && sums.met(true);
+        let down = band && sums.met(false);
         let red = lamps::next(self.red, n, up);
         self.red = red;
         self.amber = lamps::unless(red, lamps::next(self.amber, n, down));
         self
     }
 
+    #[tactic(auto, unfolding(crate::specs::Core::voice_of))]
     pub fn voice(mut self, s: Sample, n: u16) -> Core
         ensures { result ≡ voice_of self s n }
     {
@@ -128,6 +121,7 @@ impl Core {
         self
     }
 
+    #[tactic(auto, unfolding(crate::specs::Core::pitch_of, crate::specs::Core::guide_of))]
     pub fn pitch(mut self, s: Sample, n: u16) -> Core
         requires { GuideValid (guide_of self) × InRange s × (n ≤ 20) }
         ensures { result ≡ pitch_of self s n }
@@ -142,6 +136,7 @@ impl Core {
         self
     }
 
+    #[tactic(auto, unfolding(crate::specs::Core::answer_of))]
     pub fn answer(self, x: i32) -> Answer
         ensures { result ≡ answer_of self x }
     {

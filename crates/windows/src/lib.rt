@@ -12,7 +12,7 @@ use rules::ranges::both;
 
 // The sums of the six windows, the longest first.
 #[repr(C)]
-#[derive(Clone, Copy)]
+#[derive(Clone, Copy, Debug, Default, PartialEq, Eq)]
 pub struct Sums {
     pub s200: i64,
     pub s180: i64,

@@ -1,28 +1,15 @@
--- `unit_core::Core::lamps` meets its contract: what the calls ensure.
-use mathlib.Core.Path.{◌≡◌, refl}
-use mir.Facts.{to_z-of_z}
+-- `unit_core::Core::lamps` meets its contract: where the two tests of the band join.
+use Rattle.std.proofs.Common.{rules}
+use Rattle.rules.specs.Choice.{within}
 use Rattle.rules.specs.Rules.{inside, band}
 use Rattle.unit_core.specs.Core.{lamps_of}
 use Rattle.unit_core.proofs.Core.lamps.Goals as goal
+use Rattle.unit_core.proofs.Core.lamps.Goals.{then-band, else-band, then-band-2, else-band-2}
 
 pub returns : goal.returns
-unfolding lamps_of inside band
+unfolding lamps_of inside band within
 returns c =
-    let lit = c.before.before in
-    let down = lit.before in
-    let up = down.before.before in
-    let tested = up.before.before in
-    let start = tested.before.before in
-    let h = start.ranges.height in
-    let b : tested.between-band.result ≡ inside band start.args.height = simp to_z-of_z at tested.between-band.ensures in
-    rw (
-      c.unless.ensures,
-      c.before.next.ensures,
-      lit.next-red.ensures,
-      down.both-down.ensures,
-      down.before.met-2.ensures,
-      up.both-up.ensures,
-      up.before.met.ensures,
-      b,
-    )
-    refl
+    elim c.if-band.branch [
+      | then-band u ↦ elim c.if-band-2.branch [ then-band-2 w ↦ search rules | else-band-2 w ↦ search rules ]
+      | else-band u ↦ elim c.if-band-2.branch [ then-band-2 w ↦ search rules | else-band-2 w ↦ search rules ]
+    ]
