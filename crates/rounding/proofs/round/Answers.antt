@@ -10,37 +10,25 @@ use mir.Syntax.{w64}
 use mir.Facts.{to_z-of_z, to_z_pos}
 use Rattle.rounding.specs.Rounding.{nearest}
 use Rattle.rounding.proofs.Fits.{natural}
-use Rattle.rounding.proofs.Rounding.{nearest_half, added_le, round_negative, round_natural, round_over_zero}
+use Rattle.rounding.proofs.Rounding.{nearest_half, added_le, round_negative, round_natural}
 use Rattle.rounding.proofs.round.Goals as goal
-use Rattle.rounding.proofs.round.Goals.{After-size_of-size, Else-num-lt0}
-
-pub returns-then-den-eq0 : goal.returns-then-den-eq0
-returns-then-den-eq0 c = rw c.if-den-eq0.true (sym (round_over_zero c.before.args.num))
+use Rattle.rounding.proofs.round.Goals.{After-unsigned_abs-size, Else-num-lt0}
 
 -- the size that was taken
-taken : (c : After-size_of-size) → c.size_of-size.result ≡ nat_abs c.before.before.args.num
-taken c = c.size_of-size.ensures ∙ ap nat_abs (to_z-of_z c.before.before.ranges.num)
+taken : (c : After-unsigned_abs-size) → c.unsigned_abs-size.result ≡ nat_abs c.before.before.args.num
+taken c = c.unsigned_abs-size.ensures.value ∙ ap nat_abs (to_z-of_z c.before.before.ranges.num)
 
-positive : (c : After-size_of-size) → 0 < c.before.before.args.den
+positive : (c : After-unsigned_abs-size) → 0 < c.before.before.args.den
 positive c = omega (arith, c.before.if-den-eq0.false)
-
--- it is at most 2 ^ 63 and half the divisor is below that, so the sum fits
-pub overflow_add-rounded : goal.overflow_add-rounded
-overflow_add-rounded c =
-    let k = c.before.before in
-    record { fits = omega (arith, taken c, nat_abs-le k.args.num k.ranges.num.sfits, k.ranges.den.fits) }
-
-pub nonzero_div-rounded-2 : goal.nonzero_div-rounded-2
-nonzero_div-rounded-2 c = positive c
 
 -- h added to the size, and then divided: at most the size where h is below the divisor, and the nearest where h is half of it. Each need below says
 -- which h the code adds.
-small : (c : After-size_of-size) (h : ℕ) → h < c.before.before.args.den → (c.size_of-size.result + h) / c.before.before.args.den ≤ nat_abs c.before.before.args.num
-small c h l = omega (arith, added_le c.size_of-size.result c.before.before.args.den h l, taken c)
+small : (c : After-unsigned_abs-size) (h : ℕ) → h < c.before.before.args.den → (c.unsigned_abs-size.result + h) / c.before.before.args.den ≤ nat_abs c.before.before.args.num
+small c h l = omega (arith, added_le c.unsigned_abs-size.result c.before.before.args.den h l, taken c)
 
-half_up : (c : After-size_of-size) (h : ℕ) → 2 * h ≤ c.before.before.args.den → c.before.before.args.den < 2 * h + 2
-    → (c.size_of-size.result + h) / c.before.before.args.den ≡ nearest (nat_abs c.before.before.args.num) c.before.before.args.den
-half_up c h a b = let d = c.before.before.args.den in nearest_half c.size_of-size.result d h (positive c) a b ∙ ap (λ (n : ℕ). nearest n d) (taken c)
+half_up : (c : After-unsigned_abs-size) (h : ℕ) → 2 * h ≤ c.before.before.args.den → c.before.before.args.den < 2 * h + 2
+    → (c.unsigned_abs-size.result + h) / c.before.before.args.den ≡ nearest (nat_abs c.before.before.args.num) c.before.before.args.den
+half_up c h a b = let d = c.before.before.args.den in nearest_half c.unsigned_abs-size.result d h (positive c) a b ∙ ap (λ (n : ℕ). nearest n d) (taken c)
 
 pub minus-requires : goal.minus-requires
 minus-requires c =
