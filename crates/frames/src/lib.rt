@@ -5,10 +5,11 @@ ghost use Rattle.std.specs.Prelude.{◌≡◌};
 ghost use Rattle.frames.specs.Frames.{elapsed, frames_fit};
 
 // How many frames have passed since the one numbered `last`.
+#[tactic(auto, unfolding(crate::specs::Frames::elapsed))]
 pub fn elapsed(number: u16, last: u16) -> u16
     ensures { result ≡ elapsed number last }
 {
-    std::num::wrapping_sub_u16(number, last)
+    number.wrapping_sub(last)
 }
 
 // Whether a sample may stand for so many: 1 to 20.
@@ -16,5 +17,5 @@ pub fn elapsed(number: u16, last: u16) -> u16
 pub fn fit(n: u16) -> bool
     ensures { result ≡ frames_fit n }
 {
-    1 <= n && n <= 20
+    (1..=20).contains(&n)
 }
