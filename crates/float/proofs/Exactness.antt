@@ -19,8 +19,9 @@ use Rattle.rounding.proofs.CutLaws.{cut_small}
 use Rattle.rounding.proofs.Fits.{size_mul}
 use Rattle.rounding.proofs.Rounding.{round_whole}
 use Rattle.float.specs.Claims.{HundredthsAre, ExactKeeps, ExactQuarters, ToldWhenCut}
-use Rattle.float.specs.Float.{hundredths_of, exact_float, hundredths_limit, cut_off, converted_of}
-use Rattle.float.specs.declared.Converted.TheVariants.{Hundredths}
+use Rattle.float.specs.Float.{converted, hundredths_of, exact_float, hundredths_limit, cut_off, converted_of}
+use Rattle.float.specs.declared.Converted.{Converted}
+use Rattle.std.specs.Prelude.{Some}
 use Rattle.float.proofs.Fields.{signed, signed_size, signed_times}
 
 -- ════ Fractions ════
@@ -73,19 +74,21 @@ exact_keeps = record { keeps = keeps; only = only }
 
 -- ════ By the cut ════
 
-whole : (s : Bool) (m : ℕ) (e n : ℤ) (exact : Bool) → converted_of (fin s m e) ≡ Hundredths n exact false → n ≡ hundredths_of s m e
+whole : (s : Bool) (m : ℕ) (e n : ℤ) (exact : Bool) → converted_of (fin s m e) ≡ Some (converted n exact false) → n ≡ hundredths_of s m e
 unfolding converted_of cut_off
 whole s m e n exact c =
     let h = hundredths_of s m e in
-    let same : n ≡ cut hundredths_limit h = cc in
-    let uncut : ltb hundredths_limit (nat_abs h) ≡ false = cc in
+    let given : converted n exact false ≡ cut_off h (exact_float (fin s m e)) = cc in
+    let same : n ≡ cut hundredths_limit h = ap (λ (r : Converted). r.number) given in
+    let uncut : ltb hundredths_limit (nat_abs h) ≡ false = ap (λ (r : Converted). r.cut) (sym given) in
     same ∙ cut_small hundredths_limit h (ltb-false hundredths_limit (nat_abs h) uncut)
 
-beyond : (s : Bool) (m : ℕ) (e n : ℤ) (exact : Bool) → converted_of (fin s m e) ≡ Hundredths n exact true → hundredths_limit < nat_abs (hundredths_of s m e)
+beyond : (s : Bool) (m : ℕ) (e n : ℤ) (exact : Bool) → converted_of (fin s m e) ≡ Some (converted n exact true) → hundredths_limit < nat_abs (hundredths_of s m e)
 unfolding converted_of cut_off
 beyond s m e n exact c =
     let h = hundredths_of s m e in
-    let far : ltb hundredths_limit (nat_abs h) ≡ true = cc in
+    let given : converted n exact true ≡ cut_off h (exact_float (fin s m e)) = cc in
+    let far : ltb hundredths_limit (nat_abs h) ≡ true = ap (λ (r : Converted). r.cut) (sym given) in
     ltb-true hundredths_limit (nat_abs h) far
 
 pub told_when_cut : ToldWhenCut

@@ -1,5 +1,6 @@
 pub mod Fields
 pub mod Exactness
+pub mod Limits
 pub mod Quotient
 pub mod Units
 pub mod NearestLaws

@@ -2,15 +2,16 @@
 use mathlib.Core.Path.{◌≡◌}
 use mathlib.Core.Bool.{Bool, true, false}
 use Prim.Native.Nat.{ℕ, suc, ◌*◌, ◌^◌, ◌≤◌}
+use native.Mathlib.Nat.{le_trans}
 use native.Mathlib.Omega.{arith}
-use lib.Dec.{T, le→leb, lt→ltb, lit<}
+use lib.Dec.{T, le→leb, lt→ltb, lit<, lit≤}
 use lib.IntN.{ℤ, pos, negsuc, nat_abs}
-use lib.Ieee.{Float, nan, inf, fin, binary32, up, down, div, of_int, in_float, round}
+use lib.Ieee.{Float, nan, inf, fin, binary32, up, down, div, of_bits, of_int, in_float, round}
 use lib.Ieee.Back.{round_whole}
 use lib.Ieee.Exact.{HasValue}
 use lib.Ieee.Fits.{down_pos}
 use lib.Ieee.Scale.{round_same}
-use Rattle.float.specs.Float.{nearest_float}
+use Rattle.float.specs.Float.{nearest_float, nearest_limit}
 
 -- a whole number that binary32 has, as every one up to 2 ^ 24
 pub in_float_lem : (h : ℤ) → nat_abs h ≤ 2 ^ 24 → T (in_float binary32 h)
@@ -37,3 +38,8 @@ pub quotient : (h : ℤ) → nat_abs h ≤ 2 ^ 24 → div binary32 (of_int binar
 unfolding of_int nearest_float
 quotient (pos n) k = over (round binary32 false n 1) false n (round_whole binary32 false n k)
 quotient (negsuc n) k = over (round binary32 true (suc n) 1) true (suc n) (round_whole binary32 true (suc n) k)
+
+-- 100 by its pattern
+pub divided : (h : ℤ) → nat_abs h ≤ nearest_limit → div binary32 (of_int binary32 h) (of_bits binary32 1120403456) ≡ nearest_float h
+unfolding of_bits
+divided h k = quotient h (le_trans k (lit≤ tt))

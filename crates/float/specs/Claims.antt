@@ -1,12 +1,11 @@
 -- The claims on a float's conversion (02, A2), proved in proofs/Exactness.antt, and on the float of so many hundredths (02, A3), proved in
 -- proofs/NearestLaws.antt and proofs/Closest.antt.
-use Rattle.std.specs.Prelude.{Bool, true, false, cond, ◌≡◌, ℕ, ◌*◌, ◌%◌, ◌≤◌, ◌<◌, T, eqb, Float, ℤ, pos, neg_ℤ, nat_abs, ◌*ℤ◌}
+use Rattle.std.specs.Prelude.{Bool, true, false, cond, ◌≡◌, ℕ, ◌*◌, ◌%◌, ◌≤◌, ◌<◌, T, eqb, Float, ℤ, pos, neg_ℤ, nat_abs, ◌*ℤ◌, Some}
 use Rattle.std.specs.Float.{nan, inf, fin, binary32}
 use Rattle.std.specs.Float.Ieee.{up, down, ne, fits}
 use Rattle.std.specs.Float.Ieee.Scale.{finite}
 use Rattle.rounding.specs.Fraction.{Fraction, ◌over◌, ◌-F◌, ◌<F◌, zero_f}
-use Rattle.float.specs.Float.{hundredths_of, exact_float, hundredths_limit, converted_of, nearest_float, nearest_limit}
-use Rattle.float.specs.declared.Converted.TheVariants.{Hundredths}
+use Rattle.float.specs.Float.{converted, hundredths_of, exact_float, hundredths_limit, converted_of, nearest_float, nearest_limit}
 
 -- ════ A float that was exact ════
 
@@ -28,8 +27,8 @@ ExactQuarters = (s : Bool) (m : ℕ) (e : ℤ) → exact_float (fin s m e) ≡ e
 
 -- hundredths that are not said to have been cut are the float's own; where they are said to have been, the float's own are beyond the limit
 pub record ToldWhenCut : Type 0 where
-  pub whole : (s : Bool) (m : ℕ) (e n : ℤ) (exact : Bool) → converted_of (fin s m e) ≡ Hundredths n exact false → n ≡ hundredths_of s m e
-  pub beyond : (s : Bool) (m : ℕ) (e n : ℤ) (exact : Bool) → converted_of (fin s m e) ≡ Hundredths n exact true → hundredths_limit < nat_abs (hundredths_of s m e)
+  pub whole : (s : Bool) (m : ℕ) (e n : ℤ) (exact : Bool) → converted_of (fin s m e) ≡ Some (converted n exact false) → n ≡ hundredths_of s m e
+  pub beyond : (s : Bool) (m : ℕ) (e n : ℤ) (exact : Bool) → converted_of (fin s m e) ≡ Some (converted n exact true) → hundredths_limit < nat_abs (hundredths_of s m e)
 
 -- ════ The float of so many hundredths ════
 
