@@ -1,21 +1,13 @@
--- `raw::float_of` meets its contract: no pattern that passes the test is a NaN's.
-use borrow.Author.Tests.{lt-ltb, le-ltb}
+-- `raw::float_of` meets its contract: no pattern that passes the test is a NaN's, and the other one is infinity's.
+use borrow.Author.Tests.{le-ltb}
 use lib.Dec.{lt→ltb}
-use lib.Ieee.{nan_bits, of_bits}
+use lib.Ieee.{of_bits}
 use Rattle.raw.specs.Record.{float_of}
 use Rattle.raw.proofs.Patterns.{pattern_no_nan}
 use Rattle.raw.proofs.float_of.Goals as goal
 
 pub float_from_bits-result : goal.float_from_bits-result
-float_from_bits-result c = pattern_no_nan c.before.args.bits (lt→ltb _ _ c.if-bits-lt2139095040.true)
-
-pub float_from_bits-result-else-bits-lt2139095040 : goal.float_from_bits-result-else-bits-lt2139095040
-unfolding nan_bits
-float_from_bits-result-else-bits-lt2139095040 c = tt
-
-pub returns-then-bits-lt2139095040 : goal.returns-then-bits-lt2139095040
-unfolding float_of
-returns-then-bits-lt2139095040 c = rw (lt-ltb _ _ c.if-bits-lt2139095040.true)
+float_from_bits-result c = pattern_no_nan c.args.bits (lt→ltb _ _ c.if-bits-lt2139095040.true)
 
 pub returns-else-bits-lt2139095040 : goal.returns-else-bits-lt2139095040
 unfolding float_of of_bits

@@ -1,51 +1,42 @@
--- `raw::record_bytes` meets its contract: a finite float has its own pattern, and each byte is one.
+-- `raw::record_bytes` meets its contract: a finite float is no NaN, and each field's bytes stand in their place.
 use mathlib.Core.Path.{◌≡◌, ap, ◌∙◌}
-use mathlib.Core.List.{◌∷◌, ◌++◌}
+use mathlib.Core.List.{List, ◌∷◌, ◌++◌}
 use Prim.Native.Nat.{ℕ}
 use borrow.Author.Rules.{rules}
 use lib.IntN.{ℤ}
-use lib.Ieee.{binary32, to_bits}
 use mir.Syntax.{w16}
 use mir.Val.{SFits, to_z, of_z}
 use mir.Facts.{to_z-of_z}
-use Rattle.header.specs.Words.{bytes16, bytes32, unsigned16}
+use Rattle.header.specs.Words.{bytes16, unsigned16}
+use Rattle.header.proofs.Digits.{spelt}
+use Rattle.header.proofs.Signed16.{unsigned_is}
 use Rattle.raw.specs.Record.{field_bytes, record_bytes}
 use Rattle.raw.proofs.Patterns.{no_nan}
 use Rattle.raw.proofs.record_bytes.Goals as goal
-use Rattle.raw.proofs.record_bytes.Goals.{Start}
 
-pub float_to_bits-a : goal.float_to_bits-a
-float_to_bits-a c = no_nan _ c.before.requires.along
+pub to_le_bytes-requires : goal.to_le_bytes-requires
+to_le_bytes-requires c = no_nan _ c.requires.along
 
-pub float_to_bits-v : goal.float_to_bits-v
-float_to_bits-v c = no_nan _ c.before.before.requires.vertical
+pub to_le_bytes-requires-2 : goal.to_le_bytes-requires-2
+to_le_bytes-requires-2 c = no_nan _ c.requires.vertical
 
-pub float_to_bits-t : goal.float_to_bits-t
-float_to_bits-t c = no_nan _ c.before.before.before.requires.airspeed
+pub to_le_bytes-requires-3 : goal.to_le_bytes-requires-3
+to_le_bytes-requires-3 c = no_nan _ c.requires.airspeed
 
--- each field with a sign fits, and so `unsigned` gives its pattern
-fits : (c : Start)
-    → SFits w16 c.args.r.height × SFits w16 c.args.r.pitch × SFits w16 c.args.r.stall × SFits w16 c.args.r.climb
-fits c = (search rules, search rules, search rules, search rules)
-
-given : {x : ℤ} {n : ℕ} → SFits w16 x → n ≡ unsigned16 (to_z w16 (of_z w16 x)) → n ≡ unsigned16 x
-given f e = e ∙ ap unsigned16 (to_z-of_z f)
+-- the bytes of a field with a sign, kept in 16 bits
+signed : {x : ℤ} {l : List ℕ} → SFits w16 x → l ≡ bytes16 (of_z w16 (to_z w16 (of_z w16 x))) → l ≡ bytes16 (unsigned16 x)
+signed {x} f e = e ∙ ap bytes16 (ap (of_z w16) (to_z-of_z f) ∙ unsigned_is x f)
 
 pub returns : goal.returns
-unfolding record_bytes field_bytes
+unfolding record_bytes field_bytes spelt
 returns c i =
-    let c2 = c.before.before in
-    let c4 = c2.before.before in
-    let c6 = c4.before.before in
-    let start = c6.before.before.before.before.before in
-    let r = start.args.r in
-    let f = fits start in
-    bytes32 (to_bits binary32 r.along)
-    ++ (bytes32 (to_bits binary32 r.vertical)
-    ++ (bytes32 (to_bits binary32 r.airspeed)
-    ++ (bytes16 (given f.0 c6.unsigned-h.ensures i)
-    ++ (bytes16 (given f.1 c4.unsigned-p.ensures i)
-    ++ (bytes16 (given f.2 c2.unsigned-s.ensures i)
-    ++ (bytes16 (given f.3 c.unsigned-c.ensures i)
-    ++ (bytes16 r.vs1
-    ++ (r.mode ∷ r.deselect ∷ bytes16 r.frame))))))))
+    let r = c.args.r in
+    spelt 4 0 (c.to_le_bytes.ensures i)
+    ++ (spelt 4 0 (c.to_le_bytes-2.ensures i)
+    ++ (spelt 4 0 (c.to_le_bytes-3.ensures i)
+    ++ (spelt 2 0 (signed {x = r.height} (search rules) c.to_le_bytes-4.ensures i)
+    ++ (spelt 2 0 (signed {x = r.pitch} (search rules) c.to_le_bytes-5.ensures i)
+    ++ (spelt 2 0 (signed {x = r.stall} (search rules) c.to_le_bytes-6.ensures i)
+    ++ (spelt 2 0 (signed {x = r.climb} (search rules) c.to_le_bytes-7.ensures i)
+    ++ (spelt 2 0 (c.to_le_bytes-8.ensures i)
+    ++ (r.mode ∷ r.deselect ∷ spelt 2 0 (c.to_le_bytes-9.ensures i)))))))))
