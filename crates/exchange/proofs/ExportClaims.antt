@@ -10,12 +10,12 @@ use lib.IntN.{ℤ}
 use lib.ListN.{length, take, drop, length-map, drop_of_length-le, take-append-drop}
 use lib.Seq.{drop-drop}
 use Rattle.format.specs.Claims.{Bytes, WritesReadAt}
-use Rattle.header.specs.Header.{header_size, most_records, version_in, count_in, header_bytes, record_start, bytes_at, record_size}
+use Rattle.header.specs.Header.{header_size, header, most_records, version_in, count_in, header_bytes, record_start, bytes_at, record_size}
 use Rattle.format.specs.Reading.{found_record}
 use Rattle.raw.specs.Record.{parse_of, record_bytes}
 use Rattle.format.specs.Refusal.{sample_of, record_refusal}
 use Rattle.raw.specs.declared.Record.{Record}
-use Rattle.header.specs.declared.Header.TheVariants.{Records}
+use Rattle.std.specs.Prelude.{Ok}
 use Rattle.format.specs.declared.reading.Reading.{Reading}
 use Rattle.header.proofs.Headers.{header_counted, written_read_header}
 use Rattle.format.proofs.ReadingClaims.{finds_readable, writes_read_at}
@@ -320,7 +320,7 @@ same_bytes file ok bytes near =
     imported (export_text file) (samples_in file) (exported file ok)
     ∙ ap (λ c. header_bytes 1 c ++ records_file (samples_in file)) (samples_counted file)
     ∙ ap (λ h. h ++ records_file (samples_in file))
-    (sym (written_read_header file 1 count bytes (header_counted file a.header ∙ ap (λ (v : ℕ). Records v count) a.version)))
+    (sym (written_read_header file 1 count bytes (header_counted file a.header ∙ ap (λ (v : ℕ). Ok (header v count)) a.version)))
     ∙ ap (λ t. take header_size file ++ t)
     (ap (λ m. records_file (map sample_of m)) (sym all) ∙ rest_same file a bytes count 0 (omega arith) (subst Unrefused (sym all) a.all) (subst (AllOf NearestSpeeds) (sym all) near))
     ∙ take-append-drop header_size file

@@ -18,10 +18,9 @@ ghost use Rattle.runfile.specs.Run.{RunPromise};
 ghost use Rattle.unit.specs.Steps.{fresh_state, PlainPromise};
 
 use csv_rows::{Exchanged, Needed};
-use float::Converted;
 use format::reading::Reading;
 use raw::Record;
-use rules::Sample;
+use rules::{Sample, refusal};
 use tested::{FileTest, Outcome};
 use unit::{Offered, State};
 use unit_core::Answer;
@@ -29,7 +28,7 @@ use unit_core::Answer;
 // The hundredths of a finite float, cut at a million either way: finite is 1; exact is 1 where 100 times its exact value is a whole number; cut is 1
 // where the rounded hundredths are beyond a million either way. Where it is not finite all is 0.
 #[repr(C)]
-#[derive(Clone, Copy)]
+#[derive(Clone, Copy, Default)]
 pub struct ConvertedFloat {
     pub finite: u16,
     pub exact: u16,
@@ -61,22 +60,18 @@ pub fn windshear_offer_lent(state: &mut State, sample: Sample) -> Answer
 }
 
 // The hundredths that the float of a pattern becomes, whether it was exact, and whether they were cut.
+#[tactic(auto, unfolding(crate::specs::Exported::converted_numbers))]
 pub fn windshear_hundredths(bits: u32) -> ConvertedFloat
     ensures { result ≡ converted_numbers (converted_of (Ieee.of_bits binary32 bits)) }
 {
     match float::hundredths(bits) {
-        Converted::Hundredths { number, exact, cut } => ConvertedFloat {
+        Some(c) => ConvertedFloat {
             finite: 1,
-            exact: exact as u16,
-            cut: cut as u16,
-            hundredths: number,
+            exact: c.exact as u16,
+            cut: c.cut as u16,
+            hundredths: c.number,
         },
-        Converted::NotFinite => ConvertedFloat {
-            finite: 0,
-            exact: 0,
-            cut: 0,
-            hundredths: 0,
-        },
+        None => ConvertedFloat::default(),
     }
 }
 
@@ -84,7 +79,7 @@ pub fn windshear_hundredths(bits: u32) -> ConvertedFloat
 pub fn windshear_write_header(version: u32, count: u32, buf: &mut [u8]) -> u16
     ensures { (result ≡ write_header_refusal version count (length buf.old)) × (buf.new ≡ written_header version count buf.old) }
 {
-    header::write(version, count, buf)
+    refusal::number_of(header::write(version, count, buf))
 }
 
 // 24 record bytes, or 26 in version 2; or 3, 7 or 11 to 20, and the buffer untouched.
