@@ -2,3 +2,4 @@ pub mod Tests
 pub mod Choices
 pub mod RangeLaws
 pub mod HeldShear
+pub mod RefusalLaws

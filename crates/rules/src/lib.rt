@@ -15,7 +15,7 @@ use refusal::Refusal;
 // One sample, in the units of 01's table; it stands for one or more of the twenty frames of a second (02, A6). A field holds any value that a caller
 // may send.
 #[repr(C)]
-#[derive(Clone, Copy)]
+#[derive(Clone, Copy, Default)]
 pub struct Sample {
     pub along: i32,
     pub vertical: i32,
