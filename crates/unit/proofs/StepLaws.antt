@@ -3,12 +3,13 @@ use mathlib.Core.Bool.{true}
 use mathlib.Core.List.{List}
 use mathlib.Core.Path.{◌≡◌, refl, ap, ◌∙◌}
 use Prim.Native.Nat.{ℕ, zero, suc}
-use borrow.Author.Tests.{eq-eqb}
+use native.Mathlib.Omega.{arith}
+use borrow.Author.Tests.{eq-eqb, ne_eqb}
 use lib.IntN.{ℤ}
 use Rattle.rounding.specs.Cut.{cut}
 use Rattle.frames.specs.Frames.{frames_fit}
 use Rattle.rules.specs.Rules.{refusal, entry_limit}
-use Rattle.unit_core.specs.Core.{core_at, frames_of, shear_of, entry_of, core_with, lamps_of, voice_of, guide_of, pitch_of, answer_of, shown_by, refusal_by}
+use Rattle.unit_core.specs.Core.{core_at, frames_of, shear_of, entry_of, core_with, lamps_of, voice_of, guide_of, pitch_of, answer_of, refused_of, shown_by, refusal_by}
 use Rattle.unit.specs.Steps.{beside, push_of, push_times, entry_fits, windows_of, accept_of, passes, refusal_of, offer_of, PlainPromise, Valid}
 use Rattle.windows.specs.Ring.{read_from, back_of, moved_sums}
 use Rattle.alerts.specs.Counters.{GuideValid}
@@ -16,19 +17,15 @@ use Rattle.rules.specs.Needs.{InRange}
 use Rattle.unit_core.specs.declared.Answer.{Answer}
 use Rattle.unit_core.specs.declared.Core.{Core}
 use Rattle.unit.specs.declared.Offered.{Offered}
+use Rattle.rules.specs.Refusal.{refusal_number}
 use Rattle.rules.specs.declared.Sample.{Sample}
+use Rattle.rules.specs.declared.refusal.Refusal.{Refusal}
+use Rattle.rules.specs.declared.refusal.Refusal.TheVariants.{Short, Mark, Version, Zero, Count, Length, Buffer, Along, Vertical, Airspeed, Height, Pitch, Stall, Climb, Vs1, Mode, Deselect, Frames, HeaderLine, Line}
 use Rattle.unit.specs.declared.State.{State}
 use Rattle.rules.proofs.Choices.{passed}
 use Rattle.unit.proofs.PassLaws.{cut_fits}
 use Rattle.rules.proofs.RangeLaws.{frames_passed, in_range_lem}
 use Rattle.unit.proofs.ValidLaws.{valid}
-
--- two states that are one have one ring and one core
-pub one_ring : {t u : State} → t ≡ u → t.held ≡ u.held
-one_ring e = ap (λ (t : State). t.held) e
-
-pub one_core : {t u : State} → t ≡ u → t.core ≡ u.core
-one_core e = ap (λ (t : State). t.core) e
 
 -- no number fits: the state, the sample and its frames are what the arithmetic leans on
 pub leans : (t : State) (s : Sample) → refusal_of t s ≡ 0 → Valid t × InRange s × (frames_fit (frames_of t.core s) ≡ true)
@@ -47,27 +44,27 @@ times_kept (suc n) t x =
     let p = back_of u.core.place in
     ap (λ (c : Core). core_at (moved_sums (read_from u.core.place u.held) x u.core.sums) p c) (times_kept n t x)
 
-pub entered_is : (t : State) (s : Sample) (n : ℕ) (x : ℤ) {held : List ℤ} {c : Core} → beside held c ≡ push_times n t x
-    → beside held (core_with c.sums c.place s c) ≡ windows_of t s n x
+pub entered_is : (t u : State) (s : Sample) (n : ℕ) (x : ℤ) → u ≡ push_times n t x
+    → beside u.held (core_with u.core.sums u.core.place s u.core) ≡ windows_of t s n x
 unfolding windows_of core_with core_at
-entered_is t s n x e =
-    let u = push_times n t x in
-    ap (λ (v : State). beside v.held (core_with v.core.sums v.core.place s v.core)) e
-    ∙ ap (λ (c : Core). beside u.held (core_with u.core.sums u.core.place s c)) (times_kept n t x)
+entered_is t u s n x e =
+    let v = push_times n t x in
+    ap (λ (w : State). beside w.held (core_with w.core.sums w.core.place s w.core)) e
+    ∙ ap (λ (c : Core). beside v.held (core_with v.core.sums v.core.place s c)) (times_kept n t x)
 
 -- the windows, the lamps and the voice leave guidance as it was
-pub guide_kept : (t : State) (s : Sample) (n : ℕ) (x height : ℤ) {held : List ℤ} {entered lit spoken : Core}
-    → beside held entered ≡ windows_of t s n x → lit ≡ lamps_of entered height n → spoken ≡ voice_of lit s n → Valid t → GuideValid (guide_of spoken)
+pub guide_kept : (t : State) (s : Sample) (n : ℕ) (x height : ℤ) {u : State} {lit spoken : Core}
+    → u ≡ windows_of t s n x → lit ≡ lamps_of u.core height n → spoken ≡ voice_of lit s n → Valid t → GuideValid (guide_of spoken)
 unfolding windows_of core_with lamps_of voice_of guide_of
-guide_kept t s n x height w l v h = rw (v, l, one_core w) h.guide
+guide_kept t s n x height w l v h = rw (v, l, w) h.guide
 
 -- the methods one after another are the step
-pub chain : (t : State) (s : Sample) {n : ℕ} {x entry : ℤ} {held : List ℤ} {entered lit spoken end : Core} {a : Answer}
-    → n ≡ frames_of t.core s → x ≡ shear_of t.core s → entry ≡ cut entry_limit x → beside held entered ≡ windows_of t s n entry
-    → lit ≡ lamps_of entered s.height n → spoken ≡ voice_of lit s n → end ≡ pitch_of spoken s n → a ≡ answer_of end x
-    → ◌≡◌ {A = Offered} (record { answer = a; state = beside held end }) (accept_of t s)
+pub chain : (t : State) (s : Sample) {n : ℕ} {x entry : ℤ} {u : State} {lit spoken end : Core} {a : Answer}
+    → n ≡ frames_of t.core s → x ≡ shear_of t.core s → entry ≡ cut entry_limit x → u ≡ windows_of t s n entry
+    → lit ≡ lamps_of u.core s.height n → spoken ≡ voice_of lit s n → end ≡ pitch_of spoken s n → a ≡ answer_of end x
+    → ◌≡◌ {A = Offered} (record { answer = a; state = beside u.held end }) (accept_of t s)
 unfolding accept_of entry_of shown_by
-chain t s f e c w l v p a = rw (a, p, v, l, one_core w, one_ring w, c, e, f)
+chain t s f e c w l v p a = rw (a, p, v, l, w, c, e, f)
 
 -- a cut shear may come into a ring
 pub entry_fits_lem : (x : ℤ) {entry : ℤ} → entry ≡ cut entry_limit x → entry_fits entry ≡ true
@@ -78,3 +75,11 @@ pub promised : (t : State) (s : Sample) {a : Answer} {u : State} → refusal_of 
     → PlainPromise t s a u
 unfolding PlainPromise offer_of
 promised t s z e = rw (eq-eqb _ _ z) e
+
+-- each refusal has a number, and it is answered with zeros beside it
+numbered : (r : Refusal) → refusal_number r ≡ 0 → ⊥
+numbered r e = grind arith
+
+pub refused : (t : State) (s : Sample) (r : Refusal) → refusal_number r ≡ refusal_of t s → PlainPromise t s (refused_of (refusal_number r)) t
+unfolding PlainPromise offer_of
+refused t s r e = rw (← e, ne_eqb _ _ (numbered r))

@@ -43,7 +43,7 @@ pub struct Core {
 
 // What a sample is answered. `refusal` is 0 where it was accepted; else it is the first number that fits, and the other fields are 0.
 #[repr(C)]
-#[derive(Clone, Copy, Debug, PartialEq, Eq)]
+#[derive(Clone, Copy, Debug, Default, PartialEq, Eq)]
 pub struct Answer {
     pub refusal: u16,
     // 0 none, 1 amber, 2 red

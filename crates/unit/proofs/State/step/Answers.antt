@@ -1,21 +1,20 @@
--- `unit::step` meets its contract: the methods one after another; no number fits, so each may be called.
+-- `unit::State::step` meets its contract: the methods one after another; no number fits, so each may be called.
 use borrow.Author.Rules.{rules}
 use mir.Syntax.{w32}
 use mir.Val.{SFits}
 use mir.Facts.{to_z-of_z}
 use Rattle.frames.proofs.FrameLaws.{fit_bounds}
-use Rattle.unit.specs.Steps.{beside}
 use Rattle.unit.proofs.StepLaws.{leans, entry_fits_lem, guide_kept, chain, promised}
-use Rattle.unit.proofs.step.Goals as goal
+use Rattle.unit.proofs.State.step.Goals as goal
 
 pub returns : goal.returns
 returns c =
-    let before = beside c.args.held.now c.args.core in
+    let before = c.args.self.now in
     let x : SFits w32 c.shear-x.result = record { sfits = c.shear-x.type_inv } in
     let y : SFits w32 c.entry-entry.result = record { sfits = c.entry-entry.type_inv } in
     let h : SFits w32 c.args.s.height = search rules in
     let entry = simp to_z-of_z at c.entry-entry.ensures in
-    let entered = simp to_z-of_z at c.entered-filled.ensures in
+    let entered = simp to_z-of_z at c.enter.ensures in
     let lit = simp to_z-of_z at c.lamps-lit.ensures in
     let a = simp to_z-of_z at c.answer.ensures in
     promised before c.args.s c.requires
@@ -23,20 +22,19 @@ returns c =
 
 pub shear-x-requires : goal.shear-x-requires
 shear-x-requires c =
-    let a = leans (beside c.args.held.now c.args.core) c.args.s c.requires in
+    let a = leans c.args.self.now c.args.s c.requires in
     let e = c.frames-n.ensures in
     (a.0.along_le, a.1, e, rw e a.2)
 
-pub entered-filled-requires : goal.entered-filled-requires
-entered-filled-requires c =
+pub enter-requires : goal.enter-requires
+enter-requires c =
     let y : SFits w32 c.entry-entry.result = record { sfits = c.entry-entry.type_inv } in
-    ((leans (beside c.args.held.now c.args.core) c.args.s c.requires).0.ring, rw (to_z-of_z y) (entry_fits_lem _ c.entry-entry.ensures))
+    ((leans c.args.self.now c.args.s c.requires).0.ring, rw (to_z-of_z y) (entry_fits_lem _ c.entry-entry.ensures))
 
 pub pitch-end-requires : goal.pitch-end-requires
 pitch-end-requires c =
-    let before = beside c.args.held.now c.args.core in
-    let a = leans before c.args.s c.requires in (
-      guide_kept before c.args.s _ _ _ c.entered-filled.ensures c.lamps-lit.ensures c.voice-spoken.ensures a.0,
+    let a = leans c.args.self.now c.args.s c.requires in (
+      guide_kept c.args.self.now c.args.s _ _ _ c.enter.ensures c.lamps-lit.ensures c.voice-spoken.ensures a.0,
       a.1,
       rw c.frames-n.ensures (fit_bounds _ a.2).1,
     )
