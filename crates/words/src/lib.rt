@@ -1,103 +1,115 @@
-// The text of a listing in a lent buffer. Each function writes its text at a place and returns the place after it; the rest stays.
+// The text of a listing in a lent buffer.
 // A `requires` asks room for the longest text.
 #![tactic(auto)]
 
-ghost use Rattle.std.specs.Prelude.{◌++◌, ◌+◌, ◌≤◌, length};
+ghost use Rattle.std.specs.Prelude.{◌++◌, ◌+◌, length};
 ghost use Rattle.words.specs.Text.{line_feed, alert_word, command_text, float_word, header_text, line_text, total_text, refused_text};
-ghost use Rattle.text.specs.Text.{decimal, Wrote};
+ghost use Rattle.text.specs.Text.{decimal};
+ghost use Rattle.text.specs.Writer.{Puts, HasRoom};
 
-use text::write;
+use text::Writer;
 
-fn alert_word(out: &mut [u8], at: usize, alert: u16) -> usize
-    requires { at + 5 ≤ length out.old }
-    ensures { Wrote out.old at (alert_word alert) result out.new }
-{
-    if alert == 0 {
-        return write::word(out, at, b"none");
-    }
-    if alert == 1 {
-        return write::word(out, at, b"amber");
-    }
-    write::word(out, at, b"red")
+// What the line of a sample shows: the command where it is shown, and whether the record's floats were exact.
+#[derive(Clone, Copy, Debug, PartialEq, Eq)]
+pub struct Line {
+    pub place: u32,
+    pub shear: i32,
+    pub alert: u16,
+    pub voice: u16,
+    pub command: Option<i32>,
+    pub exact: bool,
 }
 
-fn command_or_off(out: &mut [u8], at: usize, shown: bool, command: i32) -> usize
-    requires { at + 11 ≤ length out.old }
-    ensures { Wrote out.old at (command_text shown command) result out.new }
+#[tactic(auto, unfolding(crate::specs::Text::alert_word))]
+fn alert_word(out: &mut Writer<'_>, alert: u16)
+    requires { HasRoom out.old 5 }
+    ensures { Puts out.old (alert_word alert) out.new }
 {
-    if shown {
-        return write::signed(out, at, command);
+    match alert {
+        0 => out.word(b"none"),
+        1 => out.word(b"amber"),
+        _ => out.word(b"red"),
     }
-    write::word(out, at, b"off")
 }
 
-fn float_word(out: &mut [u8], at: usize, exact: bool) -> usize
-    requires { at + 7 ≤ length out.old }
-    ensures { Wrote out.old at (float_word exact) result out.new }
+#[tactic(auto, using(text::proofs::TextLaws::signed_length), unfolding(crate::specs::Text::command_text))]
+fn command_or_off(out: &mut Writer<'_>, command: Option<i32>)
+    requires { HasRoom out.old 11 }
+    ensures { Puts out.old (command_text command) out.new }
+{
+    match command {
+        Some(command) => out.signed(command),
+        None => out.word(b"off"),
+    }
+}
+
+#[tactic(auto, unfolding(crate::specs::Text::float_word))]
+fn float_word(out: &mut Writer<'_>, exact: bool)
+    requires { HasRoom out.old 7 }
+    ensures { Puts out.old (float_word exact) out.new }
 {
     if exact {
-        return write::word(out, at, b"exact");
+        out.word(b"exact");
+    } else {
+        out.word(b"rounded");
     }
-    write::word(out, at, b"rounded")
 }
 
-pub fn line(
-    out: &mut [u8],
-    at: usize,
-    place: u32,
-    shear: i32,
-    alert: u16,
-    voice: u16,
-    shown: bool,
-    command: i32,
-    exact: bool,
-) -> usize
-    requires { at + 55 ≤ length out.old }
-    ensures { Wrote out.old at (line_text place shear alert voice shown command exact) result out.new }
-{
-    let a = write::number(out, at, place);
-    let b = write::byte(out, a, b' ');
-    let c = write::signed(out, b, shear);
-    let d = write::byte(out, c, b' ');
-    let e = alert_word(out, d, alert);
-    let f = write::byte(out, e, b' ');
-    let g = write::number(out, f, voice as u32);
-    let h = write::byte(out, g, b' ');
-    let i = command_or_off(out, h, shown, command);
-    let j = write::byte(out, i, b' ');
-    let k = float_word(out, j, exact);
-    write::byte(out, k, b'\n')
+impl Line {
+    // At most 55 bytes: the voice is a u16.
+    #[tactic(auto, using(text::proofs::TextLaws::decimal_length, text::proofs::TextLaws::decimal_five, text::proofs::TextLaws::signed_length, crate::proofs::LineLaws::alert_length, crate::proofs::LineLaws::command_length, crate::proofs::LineLaws::float_length))]
+    pub fn write(self, out: &mut Writer<'_>)
+        requires { HasRoom out.old 55 }
+        ensures { Puts out.old (line_text self.place self.shear self.alert self.voice self.command self.exact) out.new }
+    {
+        out.number(self.place);
+        out.byte(b' ');
+        out.signed(self.shear);
+        out.byte(b' ');
+        alert_word(out, self.alert);
+        out.byte(b' ');
+        out.number(u32::from(self.voice));
+        out.byte(b' ');
+        command_or_off(out, self.command);
+        out.byte(b' ');
+        float_word(out, self.exact);
+        out.byte(b'\n');
+    }
 }
 
-pub fn header(out: &mut [u8], at: usize) -> usize
-    requires { at + 39 ≤ length out.old }
-    ensures { Wrote out.old at header_text result out.new }
+#[tactic(auto, unfolding(crate::specs::Text::header_text))]
+pub fn header(out: &mut Writer<'_>)
+    requires { HasRoom out.old 39 }
+    ensures { Puts out.old header_text out.new }
 {
-    write::word(out, at, b"sample shear alert voice command float\n")
+    out.word(b"sample shear alert voice command float\n");
 }
 
 // A word, a number, a word, a number, and the line feed.
-fn two_numbers(out: &mut [u8], at: usize, first: &[u8], m: u32, second: &[u8], n: u32) -> usize
-    requires { at + (length first.now + length second.now + 21) ≤ length out.old }
-    ensures { Wrote out.old at (first.now ++ decimal m ++ second.now ++ decimal n ++ line_feed) result out.new }
+#[tactic(auto, using(text::proofs::TextLaws::decimal_length))]
+fn two_numbers(out: &mut Writer<'_>, first: &[u8], m: u32, second: &[u8], n: u32)
+    requires { HasRoom out.old (length first.now + length second.now + 21) }
+    ensures { Puts out.old (first.now ++ decimal m ++ second.now ++ decimal n ++ line_feed) out.new }
 {
-    let a = write::word(out, at, first);
-    let b = write::number(out, a, m);
-    let c = write::word(out, b, second);
-    let d = write::number(out, c, n);
-    write::byte(out, d, b'\n')
+    out.word(first);
+    out.number(m);
+    out.word(second);
+    out.number(n);
+    out.byte(b'\n');
 }
 
-pub fn total(out: &mut [u8], at: usize, red: u32, amber: u32) -> usize
-    requires { at + 32 ≤ length out.old }
-    ensures { Wrote out.old at (total_text red amber) result out.new }
+#[tactic(auto, unfolding(crate::specs::Text::total_text))]
+pub fn total(out: &mut Writer<'_>, red: u32, amber: u32)
+    requires { HasRoom out.old 32 }
+    ensures { Puts out.old (total_text red amber) out.new }
 {
-    two_numbers(out, at, b"red ", red, b" amber ", amber)
+    two_numbers(out, b"red ", red, b" amber ", amber);
 }
 
-pub fn refused(out: &mut [u8], at: usize, n: u16, p: u32) -> usize
-    requires { at + 33 ≤ length out.old }
-    ensures { Wrote out.old at (refused_text n p) result out.new }
+#[tactic(auto, unfolding(crate::specs::Text::refused_text))]
+pub fn refused(out: &mut Writer<'_>, n: u16, p: u32)
+    requires { HasRoom out.old 33 }
+    ensures { Puts out.old (refused_text n p) out.new }
 {
-    two_numbers(out, at, b"refused ", n as u32, b" at ", p)
+    two_numbers(out, b"refused ", u32::from(n), b" at ", p);
 }
