@@ -7,10 +7,9 @@ use native.Mathlib.Omega.{arith}
 use lib.IntN.{ℤ, pos, nat_abs}
 use lib.ListN.{length, drop, get_or, drop_of_length-le}
 use lib.Seq.{drop-cons}
+use Rattle.std.proofs.Common.{Option, Some, None}
 use Rattle.numbers.specs.Number.{number_limit}
 use Rattle.numbers.specs.Plain.{Plain}
-use Rattle.numbers.specs.declared.read.Number.{Number}
-use Rattle.numbers.specs.declared.read.Number.TheVariants.{Is, Malformed}
 use Rattle.numbers.proofs.AgainLaws.{whole_again, knots_again, plain_signed, plain_knots}
 use Rattle.numbers.proofs.BackLaws.{whole_back, knots_back}
 use Rattle.text.proofs.TextLaws.{absent_signed, absent_knots}
@@ -27,12 +26,12 @@ Limited n = AllOf (λ x. nat_abs x ≤ number_limit) n
 
 -- ════ One number ════
 
-number_back : (s : Bool) (f : List ℕ) (x : ℤ) → number_in s f ≡ Is x → nat_abs x ≤ number_limit → Plain (fewest s) f x → number_text s x ≡ f
+number_back : (s : Bool) (f : List ℕ) (x : ℤ) → number_in s f ≡ Some x → nat_abs x ≤ number_limit → Plain (fewest s) f x → number_text s x ≡ f
 unfolding number_in number_text
 number_back true f x e h p = knots_back f x e h p
 number_back false f x e h p = whole_back f x e h p
 
-number_again : (s : Bool) (x : ℤ) → nat_abs x ≤ number_limit → number_in s (number_text s x) ≡ Is x
+number_again : (s : Bool) (x : ℤ) → nat_abs x ≤ number_limit → number_in s (number_text s x) ≡ Some x
 unfolding number_in number_text
 number_again true x h = knots_again x h
 number_again false x h = whole_again x h
@@ -47,7 +46,7 @@ unfolding number_text
 number_field true x = record { no_comma = absent_knots comma refl x; no_quote = absent_knots quote refl x; no_feed = absent_knots lf refl x }
 number_field false x = record { no_comma = absent_signed comma refl x; no_quote = absent_signed quote refl x; no_feed = absent_signed lf refl x }
 
-same_number : {x y : ℤ} → Is x ≡ Is y → x ≡ y
+same_number : {x y : ℤ} → Some x ≡ Some y → x ≡ y
 same_number e = cc
 
 -- ════ A line's ════
@@ -60,17 +59,17 @@ record Then (s : Bool) (cols : List Bool) (f : List ℕ) (fields : List (List �
   first : ℤ
   later : List ℤ
   is : n ≡ first ∷ later
-  of_first : number_in s f ≡ Is first
+  of_first : number_in s f ≡ Some first
   of_later : numbers_of cols fields ≡ Numbers.are later
 
 then : (s : Bool) (cols : List Bool) (f : List ℕ) (fields : List (List ℕ)) (n : List ℤ) → numbers_of (s ∷ cols) (f ∷ fields) ≡ Numbers.are n → Then s cols f fields n
 unfolding numbers_of and_then
 then s cols f fields n = go (number_in s f) (numbers_of cols fields) refl refl
   where
-    go : (x : Number) (l : Numbers) → number_in s f ≡ x → numbers_of cols fields ≡ l → and_then x l ≡ Numbers.are n → Then s cols f fields n
-    go Malformed l p q e = absurd (no_numbers e)
-    go (Is x) Numbers.malformed p q e = absurd (no_numbers e)
-    go (Is x) (Numbers.are later) p q e = record { first = x; later = later; is = cc; of_first = p; of_later = q }
+    go : (x : Option ℤ) (l : Numbers) → number_in s f ≡ x → numbers_of cols fields ≡ l → and_then x l ≡ Numbers.are n → Then s cols f fields n
+    go None l p q e = absurd (no_numbers e)
+    go (Some x) Numbers.malformed p q e = absurd (no_numbers e)
+    go (Some x) (Numbers.are later) p q e = record { first = x; later = later; is = cc; of_first = p; of_later = q }
 
 pub numbers_length : (cols : List Bool) (fields : List (List ℕ)) (n : List ℤ) → numbers_of cols fields ≡ Numbers.are n → length n ≡ length cols
 unfolding numbers_of

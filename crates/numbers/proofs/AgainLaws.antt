@@ -10,19 +10,17 @@ use lib.Dec.{eqb}
 use lib.IntN.{ℤ, pos, negsuc, nat_abs}
 use lib.ListN.{length, drop, get_or, length-append, get_or-append}
 use lib.Seq.{take_at, drop-append-add, get_or-append-add}
+use Rattle.std.proofs.Common.{Option, Some}
 use Rattle.numbers.specs.Claims.{ReadsWrittenNumbers}
 use Rattle.numbers.specs.Number.{all_digits, value_from, digits_from, whole_size, knots_size, minus, sign_length, with_sign, whole_of, knots_of, number_limit}
 use Rattle.numbers.specs.Plain.{Plain}
 use Rattle.text.specs.Text.{digit, digits, decimal, hundredths, signed_by, signed, knots}
-use Rattle.numbers.specs.declared.read.Number.TheVariants.{Is}
-use Rattle.numbers.specs.declared.read.Size.{Size}
-use Rattle.numbers.specs.declared.read.Size.TheVariants.{Of}
 use Rattle.numbers.proofs.DigitLaws.{first, all_append, is_digit, Spells, decimal_spells}
 use Rattle.numbers.proofs.SizeLaws.{front, back, whole_some, parts}
 
 -- what is proved of the text of a size: its size is read again, it starts with a digit, and with a zero only where it has to
-record Again (size : List ℕ → Size) (fewest n : ℕ) (text : List ℕ) : Type 0 where
-  pub again : size text ≡ Of n
+record Again (size : List ℕ → Option ℕ) (fewest n : ℕ) (text : List ℕ) : Type 0 where
+  pub again : size text ≡ Some n
   pub starts : 48 ≤ get_or text 0 0
   pub leads : get_or text 0 0 ≡ 48 → length text ≡ fewest
 
@@ -73,16 +71,16 @@ module _ (a : List ℕ) (m x y : ℕ) (d : Spells a m) (w : Again whole_size 1 m
   unfolding value_from
   value = rw d.value (omega arith)
 
-  places : knots_size u ≡ Of (10 * (10 * m + x) + y)
+  places : knots_size u ≡ Some (10 * (10 * m + x) + y)
   places =
       parts u (omega (arith, long, d.some)) point true true (ap all_digits before ∙ d.all) (ap all_digits behind ∙ two)
-      ∙ ap Of (rw (before, behind) value)
+      ∙ ap Some (rw (before, behind) value)
 
   places_again : (n : ℕ) → 10 * (10 * m + x) + y ≡ n → Again knots_size 4 n u
   places_again n j =
       let b : get_or u 0 0 ≡ get_or a 0 0 = get_or-append a (46 ∷ e) 0 0 d.some in
       record {
-        again = places ∙ ap Of j;
+        again = places ∙ ap Some j;
         starts = rw b w.starts;
         leads = λ f. omega (arith, long, w.leads (sym b ∙ f));
       }
@@ -100,12 +98,12 @@ knots_size_lem n h =
 
 -- ════ With the sign: what starts with a digit has none ════
 
-module _ (size : List ℕ → Size) (fewest : ℕ) (text : ℕ → List ℕ) (of : (n : ℕ) → n ≤ number_limit → Again size fewest n (text n)) where
+module _ (size : List ℕ → Option ℕ) (fewest : ℕ) (text : ℕ → List ℕ) (of : (n : ℕ) → n ≤ number_limit → Again size fewest n (text n)) where
   other : (n : ℕ) → n ≤ number_limit → (b : ℕ) → b < 48 → eqb (get_or (text n) 0 0) b ≡ false
   other n k b h = let l = (of n k).starts in ne_eqb (get_or (text n) 0 0) b (λ e. omega arith)
 
   signed_again : (h : ℤ) → nat_abs h ≤ number_limit
-      → with_sign (minus (signed_by text h)) (size (drop (sign_length (signed_by text h)) (signed_by text h))) ≡ Is h
+      → with_sign (minus (signed_by text h)) (size (drop (sign_length (signed_by text h)) (signed_by text h))) ≡ Some h
   unfolding signed_by with_sign sign_length
   signed_again (pos n) k = rw (other n k 43 (omega arith), other n k 45 (omega arith), (of n k).again)
   signed_again (negsuc n) k = rw (of (suc n) k).again
@@ -126,11 +124,11 @@ module _ (size : List ℕ → Size) (fewest : ℕ) (text : ℕ → List ℕ) (of
         no_minus = λ z e. let y : ◌≡◌ {A = ℕ} 0 1 = cc in omega arith;
       }
 
-pub whole_again : (h : ℤ) → nat_abs h ≤ number_limit → whole_of (signed h) ≡ Is h
+pub whole_again : (h : ℤ) → nat_abs h ≤ number_limit → whole_of (signed h) ≡ Some h
 unfolding whole_of signed
 whole_again = signed_again whole_size 1 decimal whole_size_lem
 
-pub knots_again : (h : ℤ) → nat_abs h ≤ number_limit → knots_of (knots h) ≡ Is h
+pub knots_again : (h : ℤ) → nat_abs h ≤ number_limit → knots_of (knots h) ≡ Some h
 unfolding knots_of knots
 knots_again = signed_again knots_size 4 hundredths knots_size_lem
 

@@ -8,13 +8,11 @@ use borrow.Author.Tests.{eqb-true, ne_eqb}
 use lib.IntN.{ℤ, pos, negsuc, nat_abs}
 use lib.ListN.{length, drop, get_or}
 use lib.Seq.{drop-cons, drop-length, length-take-le, get_or-take}
+use Rattle.std.proofs.Common.{Option, Some, None}
 use Rattle.numbers.specs.Claims.{WritesReadNumbers}
 use Rattle.numbers.specs.Number.{all_digits, value_from, whole_size, knots_size, minus, sign_length, with_sign, whole_of, knots_of, number_limit}
 use Rattle.numbers.specs.Plain.{Plain}
 use Rattle.text.specs.Text.{digit, decimal, hundredths, signed_by, signed, knots}
-use Rattle.numbers.specs.declared.read.Number.TheVariants.{Is}
-use Rattle.numbers.specs.declared.read.Size.{Size}
-use Rattle.numbers.specs.declared.read.Size.TheVariants.{Of, Bad}
 use Rattle.numbers.proofs.DigitLaws.{first, value_append, value_ge}
 use Rattle.text.proofs.TextLaws.{decimal_one, decimal_more}
 use Rattle.numbers.proofs.SizeLaws.{front, back, is_whole, is_knots, at_point, no_number, same_number}
@@ -59,7 +57,7 @@ plain_digits (b ∷ c ∷ m) h e z l =
 
 -- ════ Sizes ════
 
-whole_text : (u : List ℕ) (v : ℕ) → whole_size u ≡ Of v → v ≤ number_limit → (get_or u 0 0 ≡ 48 → length u ≡ 1) → decimal v ≡ u
+whole_text : (u : List ℕ) (v : ℕ) → whole_size u ≡ Some v → v ≤ number_limit → (get_or u 0 0 ≡ 48 → length u ≡ 1) → decimal v ≡ u
 whole_text u v e h z =
     let w = is_whole u v e in
     let l : value_from 0 u < 10 ^ 10 = omega (arith, w.value) in
@@ -95,7 +93,7 @@ spelt a x y e h =
     rw (← value_append 0 a (x ∷ y ∷ []), whole_part n (x - 48) (y - 48) p q, tenth n (x - 48) (y - 48) p q, last n (x - 48) (y - 48) p q)
     (rw (h, one_digit x d.low, one_digit y f.low))
 
-knots_text : (u : List ℕ) (v : ℕ) → knots_size u ≡ Of v → v ≤ number_limit → (get_or u 0 0 ≡ 48 → length u ≡ 4) → hundredths v ≡ u
+knots_text : (u : List ℕ) (v : ℕ) → knots_size u ≡ Some v → v ≤ number_limit → (get_or u 0 0 ≡ 48 → length u ≡ 4) → hundredths v ≡ u
 knots_text u v e h z =
     let k = is_knots u v e in
     let n : length (front u) ≡ length u - 3 = length-take-le (length u - 3) u (omega arith) in
@@ -121,34 +119,34 @@ after_minus : (s : List ℕ) → minus s ≡ true → 45 ∷ drop 1 s ≡ s
 after_minus [] p = let z : ◌≡◌ {A = ℕ} 0 45 = eqb-true 0 45 p in absurd (omega arith)
 after_minus (b ∷ l) p = ap (λ (x : ℕ). x ∷ l) (sym (eqb-true b 45 p))
 
-module _ (size : List ℕ → Size) (text : ℕ → List ℕ) (fewest : ℕ)
-    (unsigned : (u : List ℕ) (v : ℕ) → size u ≡ Of v → v ≤ number_limit → (get_or u 0 0 ≡ 48 → length u ≡ fewest) → text v ≡ u) where
+module _ (size : List ℕ → Option ℕ) (text : ℕ → List ℕ) (fewest : ℕ)
+    (unsigned : (u : List ℕ) (v : ℕ) → size u ≡ Some v → v ≤ number_limit → (get_or u 0 0 ≡ 48 → length u ≡ fewest) → text v ≡ u) where
   -- by the sign m, its length n and the size z
-  by_sign : (s : List ℕ) (h : ℤ) (m : Bool) (n : ℕ) (z : Size) → minus s ≡ m → sign_length s ≡ n → size (drop n s) ≡ z → with_sign m z ≡ Is h
+  by_sign : (s : List ℕ) (h : ℤ) (m : Bool) (n : ℕ) (z : Option ℕ) → minus s ≡ m → sign_length s ≡ n → size (drop n s) ≡ z → with_sign m z ≡ Some h
       → nat_abs h ≤ number_limit → Plain fewest s h → signed_by text h ≡ s
   unfolding with_sign signed_by
-  by_sign s h m n Bad p q r e k g = absurd (no_number e)
-  by_sign s h false n (Of v) p q r e k g =
+  by_sign s h m n None p q r e k g = absurd (no_number e)
+  by_sign s h false n (Some v) p q r e k g =
       let t : pos v ≡ h = same_number e in
       let o : sign_length s ≡ 0 = no_sign s g.no_plus p in
-      let y : size s ≡ Of v = (rw (sym q ∙ o) at r) in
+      let y : size s ≡ Some v = (rw (sym q ∙ o) at r) in
       rw (← t) (unsigned s v y (rw (← t) at k) (rw o at g.no_zero))
-  by_sign s h true n (Of zero) p q r e k g = absurd (g.no_minus (sym (same_number e)) (eqb-true _ 45 p))
-  by_sign s h true n (Of (suc v)) p q r e k g =
+  by_sign s h true n (Some zero) p q r e k g = absurd (g.no_minus (sym (same_number e)) (eqb-true _ 45 p))
+  by_sign s h true n (Some (suc v)) p q r e k g =
       let t : negsuc v ≡ h = same_number e in
       let o : sign_length s ≡ 1 = a_minus s p in
-      let y : size (drop 1 s) ≡ Of (suc v) = (rw (sym q ∙ o) at r) in
+      let y : size (drop 1 s) ≡ Some (suc v) = (rw (sym q ∙ o) at r) in
       rw (← t, unsigned (drop 1 s) (suc v) y (rw (← t) at k) (rw o at g.no_zero)) (after_minus s p)
 
-  signed_back : (s : List ℕ) (h : ℤ) → with_sign (minus s) (size (drop (sign_length s) s)) ≡ Is h
+  signed_back : (s : List ℕ) (h : ℤ) → with_sign (minus s) (size (drop (sign_length s) s)) ≡ Some h
       → nat_abs h ≤ number_limit → Plain fewest s h → signed_by text h ≡ s
   signed_back s h e = by_sign s h (minus s) (sign_length s) (size (drop (sign_length s) s)) refl refl refl e
 
-pub whole_back : (s : List ℕ) (h : ℤ) → whole_of s ≡ Is h → nat_abs h ≤ number_limit → Plain 1 s h → signed h ≡ s
+pub whole_back : (s : List ℕ) (h : ℤ) → whole_of s ≡ Some h → nat_abs h ≤ number_limit → Plain 1 s h → signed h ≡ s
 unfolding whole_of signed
 whole_back = signed_back whole_size decimal 1 whole_text
 
-pub knots_back : (s : List ℕ) (h : ℤ) → knots_of s ≡ Is h → nat_abs h ≤ number_limit → Plain 4 s h → knots h ≡ s
+pub knots_back : (s : List ℕ) (h : ℤ) → knots_of s ≡ Some h → nat_abs h ≤ number_limit → Plain 4 s h → knots h ≡ s
 unfolding knots_of knots
 knots_back = signed_back knots_size hundredths 4 knots_text
 

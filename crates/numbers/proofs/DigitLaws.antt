@@ -1,17 +1,18 @@
 -- Laws of digits: read one after the other, and cut as they are read; and those of a number that is written.
 use mathlib.Core.Bool.{Bool, true, false, cond, ◌&&◌}
 use mathlib.Core.List.{List, [], ◌∷◌, ◌++◌}
-use mathlib.Core.Path.{◌≡◌, refl, sym, ap, ◌∙◌}
+use mathlib.Core.Path.{◌≡◌, refl, sym, ap, ◌∙◌, subst}
 use Prim.Native.Nat.{ℕ, zero, suc, ◌+◌, ◌-◌, ◌*◌, ◌/◌, ◌%◌, ◌^◌, ◌≤◌, ◌<◌, min}
 use native.Mathlib.Numerals.{add-one}
 use native.Mathlib.Omega.{arith}
 use borrow.Author.Tests.{le-leb, lt-leb, ltb-true, ltb-false, leb-true}
-use lib.Dec.{leb, ltb}
+use lib.Dec.{T, leb, ltb}
 use lib.ListN.{length, drop, get_or, length-append, get_or-append}
 use lib.Seq.{drop-cons, drop-length}
+use Rattle.std.proofs.Common.{Some, None}
+use Rattle.std.specs.Char.{is_ascii_digit}
 use Rattle.numbers.specs.Number.{all_digits, value_from, digits_from, number_limit, cut_size}
 use Rattle.text.specs.Text.{digit, digits, decimal}
-use Rattle.numbers.specs.declared.read.Size.TheVariants.{Of, Bad}
 
 -- ════ Digits that are read ════
 
@@ -66,8 +67,8 @@ pub cut_digits : (n : ℕ) (l : List ℕ) → cut_size (digits_from (min n numbe
 unfolding cut_size digits_from
 cut_digits n l = go (all_digits l)
   where
-    go : (t : Bool) → cut_size (cond t (Of (value_from (min n number_limit) l)) Bad) ≡ cut_size (cond t (Of (value_from n l)) Bad)
-    go true = ap Of (cut_from l n)
+    go : (t : Bool) → cut_size (cond t (Some (value_from (min n number_limit) l)) None) ≡ cut_size (cond t (Some (value_from n l)) None)
+    go true = ap Some (cut_from l n)
     go false = refl
 
 -- from the limit on another digit changes nothing
@@ -91,28 +92,29 @@ longer_below n d h k = go (ltb n number_limit) refl
 -- ════ The digits from the i-th on, as the loop meets them ════
 
 module _ (n : ℕ) (s : List ℕ) (i : ℕ) (h : i < length s) where
-  pub digits_low : get_or s i 0 < 48 → cut_size (digits_from n (drop i s)) ≡ Bad
+  pub digits_other : is_ascii_digit (get_or s i 0) ≡ false → None ≡ cut_size (digits_from n (drop i s))
   unfolding cut_size digits_from all_digits
-  digits_low l = rw (drop-cons s i 0 h, lt-leb 48 (get_or s i 0) l)
-
-  pub digits_high : 57 < get_or s i 0 → cut_size (digits_from n (drop i s)) ≡ Bad
-  unfolding cut_size digits_from all_digits
-  digits_high l = rw (drop-cons s i 0 h, le-leb 48 (get_or s i 0) (omega arith), lt-leb (get_or s i 0) 57 l)
+  digits_other e = rw (drop-cons s i 0 h) (go (leb 48 (get_or s i 0)) (leb (get_or s i 0) 57) e)
+    where
+      go : (p q : Bool) → (p && q) ≡ false → None ≡ cut_size (cond (p && q && all_digits (drop (suc i) s)) (Some (value_from n (get_or s i 0 ∷ drop (suc i) s))) None)
+      go true true e = absurd (subst T e tt)
+      go true false e = refl
+      go false q e = refl
 
   one_more : 48 ≤ get_or s i 0 → get_or s i 0 ≤ 57 → digits_from n (drop i s) ≡ digits_from (10 * n + (get_or s i 0 - 48)) (drop (i + 1) s)
   unfolding digits_from all_digits value_from
   one_more l k = rw (add-one, drop-cons s i 0 h, le-leb 48 (get_or s i 0) l, le-leb (get_or s i 0) 57 k)
 
   pub digits_next : 48 ≤ get_or s i 0 → get_or s i 0 ≤ 57
-      → cut_size (digits_from n (drop i s)) ≡ cut_size (digits_from (min (10 * n + (get_or s i 0 - 48)) number_limit) (drop (i + 1) s))
-  digits_next l k = ap cut_size (one_more l k) ∙ sym (cut_digits (10 * n + (get_or s i 0 - 48)) (drop (i + 1) s))
+      → cut_size (digits_from (cond (ltb n number_limit) (10 * n + (get_or s i 0 - 48)) n) (drop (i + 1) s)) ≡ cut_size (digits_from n (drop i s))
+  digits_next l k =
+      longer_cut n (get_or s i 0 - 48) (drop (i + 1) s) ∙ cut_digits (10 * n + (get_or s i 0 - 48)) (drop (i + 1) s) ∙ ap cut_size (sym (one_more l k))
 
-pub digits_end : (n : ℕ) (s : List ℕ) (i : ℕ) → n ≤ number_limit → i ≤ length s → length s ≤ i → cut_size (digits_from n (drop i s)) ≡ Of n
+pub digits_end : (n : ℕ) (s : List ℕ) (i : ℕ) → i ≤ length s → length s ≤ i → Some (min n number_limit) ≡ cut_size (digits_from n (drop i s))
 unfolding cut_size digits_from all_digits value_from
-digits_end n s i h k l =
+digits_end n s i k l =
     let e : i ≡ length s = omega arith in
-    let m : min n number_limit ≡ n = omega arith in
-    rw (e, drop-length s) (ap Of m)
+    rw (e, drop-length s) refl
 
 -- ════ Digits that are written ════
 

@@ -10,33 +10,30 @@ use lib.Dec.{ltb, eqb}
 use lib.IntN.{ℤ, pos, negsuc, neg_ℤ, nat_abs}
 use lib.ListN.{length, take, drop, get_or, take-append-drop}
 use lib.Seq.{drop-cons}
+use Rattle.std.proofs.Common.{Option, Some, None}
 use Rattle.rounding.proofs.CutLaws.{cut_small, cut_low, cut_high}
 use Rattle.rounding.proofs.Difference.{nat, neg_d, le_d}
 use Rattle.rounding.proofs.Fits.{size_neg}
 use Rattle.rounding.specs.Cut.{cut}
 use Rattle.numbers.specs.Number.{all_digits, value_from, digits_from, whole_size, two_decimals, knots_size, minus, sign_length, with_sign, number_limit, cut_number, cut_size}
-use Rattle.numbers.specs.declared.read.Number.{Number}
-use Rattle.numbers.specs.declared.read.Number.TheVariants.{Is, Malformed}
-use Rattle.numbers.specs.declared.read.Size.{Size}
-use Rattle.numbers.specs.declared.read.Size.TheVariants.{Of, Bad}
 use Rattle.numbers.proofs.DigitLaws.{cut_digits, value_append}
 
 -- a text has a size or none, and no two; so it is with numbers
-no_size : {v : ℕ} → Bad ≡ Of v → ⊥
+no_size : {v : ℕ} → None ≡ Some v → ⊥
 no_size e = let z : ◌≡◌ {A = ℕ} 0 1 = cc in omega arith
 
-same_size : {v w : ℕ} → Of v ≡ Of w → v ≡ w
+same_size : {v w : ℕ} → Some v ≡ Some w → v ≡ w
 same_size e = cc
 
-pub no_number : {h : ℤ} → Malformed ≡ Is h → ⊥
+pub no_number : {h : ℤ} → None ≡ Some h → ⊥
 no_number e = let z : ◌≡◌ {A = ℕ} 0 1 = cc in omega arith
 
-pub same_number : {h k : ℤ} → Is h ≡ Is k → h ≡ k
+pub same_number : {h k : ℤ} → Some h ≡ Some k → h ≡ k
 same_number e = cc
 
 -- ════ Whole numbers ════
 
-pub whole_none : (u : List ℕ) → length u ≡ 0 → Bad ≡ cut_size (whole_size u)
+pub whole_none : (u : List ℕ) → length u ≡ 0 → None ≡ cut_size (whole_size u)
 unfolding whole_size cut_size
 whole_none u h = rw h
 
@@ -54,24 +51,24 @@ abbrev pub back : List ℕ → List ℕ
 back u = drop (length u - 2) u
 
 module _ (u : List ℕ) where
-  pub knots_short : length u < 4 → Bad ≡ cut_size (knots_size u)
+  pub knots_short : length u < 4 → None ≡ cut_size (knots_size u)
   unfolding knots_size two_decimals cut_size
   knots_short h = rw (le-ltb 3 (length u) (omega arith))
 
   -- by the four tests
   tests : (a b c d : Bool) → ltb 3 (length u) ≡ a → all_digits (front u) ≡ b → eqb (get_or u (length u - 3) 0) 46 ≡ c → all_digits (back u) ≡ d
-      → knots_size u ≡ cond (a && b && c && d) (Of (value_from 0 (front u ++ back u))) Bad
+      → knots_size u ≡ cond (a && b && c && d) (Some (value_from 0 (front u ++ back u))) None
   unfolding knots_size two_decimals
   tests a b c d p q r s = rw (p, q, r, s)
 
-  pub no_point : (get_or u (length u - 3) 0 ≡ 46 → ⊥) → Bad ≡ cut_size (knots_size u)
+  pub no_point : (get_or u (length u - 3) 0 ≡ 46 → ⊥) → None ≡ cut_size (knots_size u)
   unfolding cut_size
   no_point h =
       sym
       (ap cut_size (tests (ltb 3 (length u)) (all_digits (front u)) false (all_digits (back u)) refl refl (ne_eqb _ 46 h) refl)
       ∙ none (ltb 3 (length u)) (all_digits (front u)))
     where
-      none : (a b : Bool) → cut_size (cond (a && b && false && all_digits (back u)) (Of (value_from 0 (front u ++ back u))) Bad) ≡ Bad
+      none : (a b : Bool) → cut_size (cond (a && b && false && all_digits (back u)) (Some (value_from 0 (front u ++ back u))) None) ≡ None
       none true true = refl
       none true false = refl
       none false b = refl
@@ -79,24 +76,24 @@ module _ (u : List ℕ) where
   module _ (h : 4 ≤ length u) (p : get_or u (length u - 3) 0 ≡ 46) where
     -- the digits before the point, and those behind it after them
     pub parts : (b d : Bool) → all_digits (front u) ≡ b → all_digits (back u) ≡ d
-        → knots_size u ≡ cond (b && d) (Of (value_from (value_from 0 (front u)) (back u))) Bad
-    parts true true q r = tests true true true true (lt-ltb 3 (length u) h) q (eq-eqb _ 46 p) r ∙ ap Of (sym (value_append 0 (front u) (back u)))
+        → knots_size u ≡ cond (b && d) (Some (value_from (value_from 0 (front u)) (back u))) None
+    parts true true q r = tests true true true true (lt-ltb 3 (length u) h) q (eq-eqb _ 46 p) r ∙ ap Some (sym (value_append 0 (front u) (back u)))
     parts true false q r = tests true true true false (lt-ltb 3 (length u) h) q (eq-eqb _ 46 p) r
     parts false d q r = tests true false true d (lt-ltb 3 (length u) h) q (eq-eqb _ 46 p) r
 
-    pub front_bad : Bad ≡ cut_size (digits_from 0 (front u)) → Bad ≡ cut_size (knots_size u)
+    pub front_bad : None ≡ cut_size (digits_from 0 (front u)) → None ≡ cut_size (knots_size u)
     unfolding digits_from cut_size
     front_bad e = go (all_digits (front u)) refl e
       where
-        go : (b : Bool) → all_digits (front u) ≡ b → Bad ≡ cut_size (cond b (Of (value_from 0 (front u))) Bad) → Bad ≡ cut_size (knots_size u)
+        go : (b : Bool) → all_digits (front u) ≡ b → None ≡ cut_size (cond b (Some (value_from 0 (front u))) None) → None ≡ cut_size (knots_size u)
         go true q e = absurd (no_size e)
         go false q e = sym (ap cut_size (parts false (all_digits (back u)) q refl))
 
-    pub knots_is : (v : ℕ) → Of v ≡ cut_size (digits_from 0 (front u)) → cut_size (digits_from v (back u)) ≡ cut_size (knots_size u)
+    pub knots_is : (v : ℕ) → Some v ≡ cut_size (digits_from 0 (front u)) → cut_size (digits_from v (back u)) ≡ cut_size (knots_size u)
     unfolding digits_from cut_size
     knots_is v e = go (all_digits (front u)) refl e
       where
-        go : (b : Bool) → all_digits (front u) ≡ b → Of v ≡ cut_size (cond b (Of (value_from 0 (front u))) Bad)
+        go : (b : Bool) → all_digits (front u) ≡ b → Some v ≡ cut_size (cond b (Some (value_from 0 (front u))) None)
             → cut_size (digits_from v (back u)) ≡ cut_size (knots_size u)
         go true q e =
             let w : v ≡ min (value_from 0 (front u)) number_limit = same_size e in
@@ -110,11 +107,11 @@ pub record Whole (u : List ℕ) (v : ℕ) : Type 0 where
   pub all : all_digits u ≡ true
   pub value : value_from 0 u ≡ v
 
-pub is_whole : (u : List ℕ) (v : ℕ) → whole_size u ≡ Of v → Whole u v
+pub is_whole : (u : List ℕ) (v : ℕ) → whole_size u ≡ Some v → Whole u v
 unfolding whole_size
 is_whole u v e = go (ltb 0 (length u)) (all_digits u) refl refl e
   where
-    go : (a b : Bool) → ltb 0 (length u) ≡ a → all_digits u ≡ b → cond (a && b) (Of (value_from 0 u)) Bad ≡ Of v → Whole u v
+    go : (a b : Bool) → ltb 0 (length u) ≡ a → all_digits u ≡ b → cond (a && b) (Some (value_from 0 u)) None ≡ Some v → Whole u v
     go true true p q e = record { some = ltb-true 0 (length u) p; all = q; value = same_size e }
     go true false p q e = absurd (no_size e)
     go false b p q e = absurd (no_size e)
@@ -126,12 +123,12 @@ pub record Knots (u : List ℕ) (v : ℕ) : Type 0 where
   pub behind_point : all_digits (back u) ≡ true
   pub value : value_from 0 (front u ++ back u) ≡ v
 
-pub is_knots : (u : List ℕ) (v : ℕ) → knots_size u ≡ Of v → Knots u v
+pub is_knots : (u : List ℕ) (v : ℕ) → knots_size u ≡ Some v → Knots u v
 unfolding knots_size two_decimals
 is_knots u v e = go (ltb 3 (length u)) (all_digits (front u)) (eqb (get_or u (length u - 3) 0) 46) (all_digits (back u)) refl refl refl refl e
   where
     go : (a b c d : Bool) → ltb 3 (length u) ≡ a → all_digits (front u) ≡ b → eqb (get_or u (length u - 3) 0) 46 ≡ c → all_digits (back u) ≡ d
-        → cond (a && b && c && d) (Of (value_from 0 (front u ++ back u))) Bad ≡ Of v → Knots u v
+        → cond (a && b && c && d) (Some (value_from 0 (front u ++ back u))) None ≡ Some v → Knots u v
     go true true true true p q r s e =
         record {
           long = ltb-true 3 (length u) p;
@@ -154,16 +151,10 @@ at_point u v k =
 
 -- ════ What is cut ════
 
-pub size-le : (v : ℕ) (z : Size) → Of v ≡ cut_size z → v ≤ number_limit
+pub size-le : (v : ℕ) (z : Option ℕ) → Some v ≡ cut_size z → v ≤ number_limit
 unfolding cut_size
-size-le v (Of n) e = let w : v ≡ min n number_limit = same_size e in omega arith
-size-le v Bad e = absurd (no_size (sym e))
-
--- cut once more it is the same
-pub cut_again : (y z : Size) → z ≡ cut_size y → cut_size z ≡ z
-unfolding cut_size
-cut_again (Of n) z e = let w : min (min n number_limit) number_limit ≡ min n number_limit = omega arith in rw e (ap Of w)
-cut_again Bad z e = rw e
+size-le v (Some n) e = let w : v ≡ min n number_limit = same_size e in omega arith
+size-le v None e = absurd (no_size (sym e))
 
 -- a size with its sign: within the limit it stays, beyond it the limit stands with that sign
 abbrev sized : Bool → ℕ → ℤ
@@ -190,10 +181,10 @@ cut_sized negative n = go (ltb n number_limit) refl
         let m : min n number_limit ≡ number_limit = omega arith in
         rw m (sym (beyond negative n h))
 
-pub sign_cut : (negative : Bool) (z : Size) → with_sign negative (cut_size z) ≡ cut_number (with_sign negative z)
+pub sign_cut : (negative : Bool) (z : Option ℕ) → with_sign negative (cut_size z) ≡ cut_number (with_sign negative z)
 unfolding with_sign cut_size cut_number
-sign_cut negative (Of n) = ap Is (cut_sized negative n)
-sign_cut negative Bad = refl
+sign_cut negative (Some n) = ap Some (cut_sized negative n)
+sign_cut negative None = refl
 
 -- what is cut is as large as the limit
 cut_large : (n : ℤ) → number_limit < nat_abs n → nat_abs (cut number_limit n) ≡ number_limit
@@ -201,29 +192,20 @@ cut_large (pos n) h = rw (beyond false n (omega arith))
 cut_large (negsuc n) h = rw (beyond true (suc n) (omega arith))
 
 -- so a smaller number was not cut
-pub uncut : (x : Number) (h : ℤ) → cut_number x ≡ Is h → nat_abs h < number_limit → x ≡ Is h
+pub uncut : (x : Option ℤ) (h : ℤ) → cut_number x ≡ Some h → nat_abs h < number_limit → x ≡ Some h
 unfolding cut_number
-uncut Malformed h e k = e
-uncut (Is n) h e k = go (ltb number_limit (nat_abs n)) refl
+uncut None h e k = e
+uncut (Some n) h e k = go (ltb number_limit (nat_abs n)) refl
   where
-    go : (t : Bool) → ltb number_limit (nat_abs n) ≡ t → Is n ≡ Is h
+    go : (t : Bool) → ltb number_limit (nat_abs n) ≡ t → Some n ≡ Some h
     go true f =
         let z : nat_abs h ≡ number_limit = ap nat_abs (sym (same_number e)) ∙ cut_large n (ltb-true number_limit (nat_abs n) f) in
         absurd (omega arith)
-    go false f = ap Is (sym (cut_small number_limit n (ltb-false number_limit (nat_abs n) f))) ∙ e
+    go false f = ap Some (sym (cut_small number_limit n (ltb-false number_limit (nat_abs n) f))) ∙ e
 
 -- ════ With the sign ════
 
-pub sign_in : (s : List ℕ) (n : ℕ) → n ≡ sign_length s → n ≤ length s
-unfolding sign_length
-sign_in [] n e = omega arith
-sign_in (b ∷ l) n e = rw e (go (eqb b 43 || eqb b 45))
-  where
-    go : (t : Bool) → cond t 1 0 ≤ suc (length l)
-    go true = omega arith
-    go false = omega arith
-
--- of either kind of size; a part of a slice up to its end is `take (length s - at) (drop at s)`
-pub joined : (size : List ℕ → Size) (s : List ℕ) (at b : ℕ) (z : Size) → at ≡ sign_length s → b ≡ get_or s 0 0
-    → z ≡ cut_size (size (take (length s - at) (drop at s))) → with_sign (eqb b 45) z ≡ cut_number (with_sign (minus s) (size (drop (sign_length s) s)))
-joined size s at b z p q r = rw (q, r, part_to_end s at, p) (sign_cut (minus s) (size (drop (sign_length s) s)))
+-- of either kind of size
+pub joined : (size : List ℕ → Option ℕ) (s u : List ℕ) (z : Option ℕ) → z ≡ cut_size (size u) → u ≡ drop (sign_length s) s
+    → with_sign (minus s) z ≡ cut_number (with_sign (minus s) (size (drop (sign_length s) s)))
+joined size s u z p q = rw (p, q) (sign_cut (minus s) (size (drop (sign_length s) s)))
