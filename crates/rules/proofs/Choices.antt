@@ -10,7 +10,8 @@ use lib.IntN.{ℤ, pos, negsuc}
 use lib.Signed.{lt_z, le_z, ◌≤ℤ◌, ≤ℤ_refl}
 use Rattle.rounding.proofs.Difference.{any, le_d, of_le}
 use Rattle.rounding.proofs.Order.{lt_z_le, lt_z_false}
-use Rattle.rules.specs.Choice.{first_of, or_else, smaller, larger}
+use Rattle.rules.specs.Choice.{first_of, or_else, same, smaller, larger}
+use Rattle.std.proofs.Common.{Less, Equal, Greater, is_eq, int_eq}
 
 -- what holds of each of two, where the test picks it, holds of the one that is picked
 pub cond_has {ℓ} : {A : Type ℓ} (P : A → Type 0) (t : Bool) {a b : A} → (t ≡ true → P a) → (t ≡ false → P b) → P (cond t a b)
@@ -45,6 +46,17 @@ lt_z_not (pos a) (pos b) = ltb_not a b
 lt_z_not (pos a) (negsuc b) = refl
 lt_z_not (negsuc a) (pos b) = refl
 lt_z_not (negsuc a) (negsuc b) = ltb_not b a
+
+-- what `==` answers of two signed numbers
+pub int_eq_same : (a b : ℤ) → int_eq a b ≡ same a b
+unfolding same
+int_eq_same a b = rw (lt_z_not a b, lt_z_not b a) (go (le_z a b) (le_z b a))
+  where
+    go : (s t : Bool) → is_eq (cond (not t) Less (cond (not s) Greater Equal)) ≡ (s && t)
+    go true true = refl
+    go true false = refl
+    go false true = refl
+    go false false = refl
 
 pub ≤ℤ-trans : {a b c : ℤ} → a ≤ℤ b → b ≤ℤ c → a ≤ℤ c
 ≤ℤ-trans {a} {b} {c} h k = le_d (any a) (any c) (omega (arith, of_le h (any a) (any b), of_le k (any b) (any c)))

@@ -2,19 +2,19 @@
 use mathlib.Core.Path.{◌≡◌, refl, sym, ap, ◌∙◌}
 use mathlib.Core.Bool.{Bool, true, false}
 use mathlib.Core.List.{List, [], ◌∷◌, ◌++◌}
-use Prim.Native.Nat.{ℕ, zero, suc, ◌+◌, ◌*◌, ◌≤◌, ◌<◌}
+use Prim.Native.Nat.{ℕ, zero, suc, ◌+◌, ◌*◌, ◌≤◌, ◌<◌, ◌^◌}
 use native.Mathlib.Numerals.{add-one}
 use native.Mathlib.Omega.{arith}
-use lib.Dec.{T}
+use lib.Dec.{T, lit<}
 use lib.IntN.{ℤ, pos, neg_ℤ, nat_abs, ◌+ℤ◌, ◌-ℤ◌, +ℤ_idl, +ℤ_idr, +ℤ_assoc}
 use lib.ListN.{length, take, get_or, replicate}
 use lib.Seq.{take-suc, take-append-le}
 use lib.Signed.{le_z, le_z_yes}
-use mir.Syntax.{w64}
-use mir.Val.{SFits}
+use mir.Syntax.{w32, w64}
+use mir.Val.{SFits, to_z, of_z}
 use Rattle.rounding.specs.Fraction.{sum_ℤ}
 use Rattle.rounding.proofs.Difference.{any, nat, neg_d, -D, le_d, of_le}
-use Rattle.rounding.proofs.Fits.{size_add}
+use Rattle.rounding.proofs.Fits.{Holds, read, kept, size_add}
 use Rattle.rules.specs.Rules.{last_of, window_sum}
 use Rattle.windows.specs.declared.Sums.{Sums}
 
@@ -36,6 +36,10 @@ sum_le k (x ∷ l) (suc n) h = omega (arith, size_add x (sum_ℤ (take n l)), h 
 pub window_sum_take : (n : ℕ) (l : List ℤ) → n ≤ length l → window_sum n l ≡ sum_ℤ (take n l)
 unfolding window_sum last_of
 window_sum_take n l h = rw (take-append-le n l (replicate n (pos 0)) h)
+
+-- an entry of 32 bits that is made one of 64
+pub widened : {x r : ℤ} → SFits w32 x → r ≡ to_z w32 (of_z w32 x) → Holds (to_z w64 (of_z w64 r)) x (2 ^ 31)
+widened f e = let h = read w32 f in kept w64 (record { is = e ∙ h.is; le = h.le }) (lit< tt)
 
 -- six sums of 64 bits, each of which is read back as it is
 pub record SumsFit (s : Sums) : Type 0 where

@@ -1,14 +1,11 @@
 // The windows: a ring of the last two hundred entries, and a running sum for each window (01, "The six windows"; 02, A1 and A9).
 #![tactic(auto)]
 
-ghost use Rattle.std.specs.Prelude.{◌≡◌, ◌||◌, ◌*◌, ◌≤◌, ◌<◌, nat_abs, length, set, take};
+ghost use Rattle.std.specs.Prelude.{◌≡◌, ◌*◌, ◌≤◌, ◌<◌, nat_abs, length, set, take};
 ghost use Rattle.rounding.specs.Cut.{cut};
 ghost use Rattle.rounding.specs.Fraction.{sum_ℤ};
-ghost use Rattle.rules.specs.Choice.{same};
 ghost use Rattle.rules.specs.Rules.{entry_limit, row};
 ghost use Rattle.windows.specs.Ring.{back_of, on_of, read_from, moved_of, moved_sums, sums_of, same_sums, SumsWithin, reached, met_of};
-
-use rules::ranges::both;
 
 // The sums of the six windows, the longest first.
 #[repr(C)]
@@ -23,32 +20,29 @@ pub struct Sums {
 }
 
 // What a held shear enters into the windows: itself, cut to between -34,500 and 34,500 (02, A1).
+#[tactic(auto, unfolding(rounding::specs::Cut::cut))]
 pub fn entry(shear: i32) -> i32
     ensures { result ≡ cut entry_limit shear }
 {
-    rounding::cut(shear as i64, 34500) as i32
+    shear.clamp(-34500, 34500)
 }
 
 // One place back, round: where the next entry goes.
+#[tactic(auto, unfolding(crate::specs::Ring::back_of))]
 pub fn back(p: usize) -> usize
     requires { p < 200 }
     ensures { (result ≡ back_of p) × (result < 200) }
 {
-    if p == 0 {
-        return 199;
-    }
-    p - 1
+    if p == 0 { 199 } else { p - 1 }
 }
 
 // n places on, round.
+#[tactic(auto, unfolding(crate::specs::Ring::on_of))]
 fn on(p: usize, n: usize) -> usize
     requires { (p < 200) × (n < 200) }
     ensures { (result ≡ on_of p n) × (result < 200) }
 {
-    if p + n < 200 {
-        return p + n;
-    }
-    p + n - 200
+    if p + n < 200 { p + n } else { p + n - 200 }
 }
 
 // The sum of the window of n as x enters: it gains x, and loses the entry that was its oldest.
@@ -57,7 +51,7 @@ fn moved(sum: i64, x: i32, held: &[i32; 200], p: usize, n: usize) -> i64
     ensures { result ≡ moved_of n (read_from p held.now) x sum }
 {
     let j = on(p, n - 1);
-    sum + x as i64 - held[j] as i64
+    sum + i64::from(x) - i64::from(held[j])
 }
 
 // x is stored one place before p, round; returned is what the six sums become.
@@ -65,6 +59,7 @@ pub fn enter(sums: Sums, p: usize, held: &mut [i32; 200], x: i32) -> Sums
     requires { SumsWithin sums × (p < 200) × (length held.old ≡ 200) }
     ensures { (result ≡ moved_sums (read_from p held.old) x sums) × (held.new ≡ set held.old (back_of p) x) }
 {
+    // kept: a table or a loop over the six would still list the fields of Sums, which the C interface fixes
     let next = Sums {
         s200: moved(sums.s200, x, &*held, p, 200),
         s180: moved(sums.s180, x, &*held, p, 180),
@@ -84,11 +79,9 @@ fn sum_on(held: &[i32; 200], p: usize, m: usize, sum: i64, n: usize) -> i64
     ensures { (result ≡ sum_ℤ (take n (read_from p held.now))) × (nat_abs result ≤ n * 2147483648) }
 {
     let mut sum = sum;
-    let mut i = m;
-    while i < n {
+    for i in m..n {
         let j = on(p, i);
-        sum += held[j] as i64;
-        i += 1;
+        sum += i64::from(held[j]);
     }
     sum
 }
@@ -113,52 +106,33 @@ pub fn all_sums(held: &[i32; 200], p: usize) -> Sums
     }
 }
 
-// Whether a window's sum, or its opposite, reaches samples × value, or another did.
-fn reaches(sum: i64, samples: u32, value: u32, up: bool, other: bool) -> bool
+// Whether a window's sum, or its opposite, reaches samples × value.
+fn reaches(sum: i64, samples: u32, value: u32, up: bool) -> bool
     requires { (samples ≤ 200) × (value ≤ 100000) }
-    ensures { result ≡ (reached up (row samples value) sum || other) }
+    ensures { result ≡ reached up (row samples value) sum }
 {
-    let limit = (samples * value) as i64;
-    if up {
-        if limit <= sum {
-            return true;
-        }
-        return other;
-    }
-    if sum <= -limit {
-        return true;
-    }
-    other
-}
-
-// Whether two sums are one.
-fn agree(a: i64, b: i64) -> bool
-    ensures { result ≡ same a b }
-{
-    a <= b && b <= a
+    let limit = i64::from(samples * value);
+    if up { limit <= sum } else { sum <= -limit }
 }
 
 impl Sums {
     // Whether each sum is the other's.
+    #[tactic(auto, using(rules::proofs::Choices::int_eq_same), unfolding(crate::specs::Ring::same_sums))]
     pub fn equal(self, other: Sums) -> bool
         ensures { result ≡ same_sums self other }
     {
-        let a = both(agree(self.s200, other.s200), agree(self.s180, other.s180));
-        let b = both(a, agree(self.s160, other.s160));
-        let c = both(b, agree(self.s140, other.s140));
-        let d = both(c, agree(self.s120, other.s120));
-        both(d, agree(self.s100, other.s100))
+        self == other
     }
 
     // Whether some window is met, upward or downward.
     pub fn met(self, up: bool) -> bool
         ensures { result ≡ met_of up self }
     {
-        let m100 = reaches(self.s100, 100, 21000, up, false);
-        let m120 = reaches(self.s120, 120, 17480, up, m100);
-        let m140 = reaches(self.s140, 140, 14990, up, m120);
-        let m160 = reaches(self.s160, 160, 13110, up, m140);
-        let m180 = reaches(self.s180, 180, 11660, up, m160);
-        reaches(self.s200, 200, 10500, up, m180)
+        reaches(self.s200, 200, 10500, up)
+            || reaches(self.s180, 180, 11660, up)
+            || reaches(self.s160, 160, 13110, up)
+            || reaches(self.s140, 140, 14990, up)
+            || reaches(self.s120, 120, 17480, up)
+            || reaches(self.s100, 100, 21000, up)
     }
 }

@@ -1,7 +1,6 @@
 -- `windows::enter` meets its contract: each field is what its call ensures, and the store is the last step.
 use mathlib.Core.Path.{◌≡◌, ◌∙◌}
 use Prim.Native.Nat.{ℕ, ◌≤◌, ◌<◌, ◌^◌}
-use native.Mathlib.Omega.{arith}
 use lib.Dec.{lit<, lit≤}
 use lib.IntN.{ℤ, nat_abs}
 use mathlib.Core.List.{List}
@@ -68,12 +67,3 @@ moved-requires-5 c =
 pub moved-requires-6 : goal.moved-requires-6
 moved-requires-6 c =
     asked c.args.held.now 100 c.requires.1 c.requires.2 (lit< tt) (lit≤ tt) c.args.sums.s100 c.requires.0.s100
-
-pub back-q-requires : goal.back-q-requires
-back-q-requires c = c.requires.1
-
-pub offset_bounds-held-q : goal.offset_bounds-held-q
-offset_bounds-held-q c = omega (arith, c.back-q.ensures.1)
-
-pub bounds-held-q : goal.bounds-held-q
-bounds-held-q c = c.back-q.ensures.1

@@ -7,40 +7,30 @@ use borrow.Author.Rules.{rules}
 use lib.Dec.{lit<}
 use lib.IntN.{ℤ, pos, ◌+ℤ◌, ◌-ℤ◌}
 use lib.ListN.{get_or}
-use mir.Syntax.{w32, w64}
+use mir.Syntax.{w64}
 use mir.Val.{to_z, of_z}
-use Rattle.rounding.proofs.Fits.{Holds, exact, read, kept, plus, minus, sfits}
+use Rattle.rounding.proofs.Fits.{Holds, exact, kept, plus, minus, sfits}
 use Rattle.windows.specs.Ring.{on_of, moved_of}
 use Rattle.windows.proofs.RingLaws.{read_at}
+use Rattle.windows.proofs.WindowLaws.{widened}
 use Rattle.windows.proofs.moved.Goals as goal
-use Rattle.windows.proofs.moved.Goals.{After-result-1, Start}
-
-abbrev wide : ℤ → ℤ
-wide x = to_z w64 (of_z w64 (to_z w32 (of_z w32 x)))
+use Rattle.windows.proofs.moved.Goals.{After-from, After-from-2}
 
 -- the sum with x
-gained : (k : Start) → Holds (to_z w64 (of_z w64 k.args.sum) +ℤ wide k.args.x) (k.args.sum +ℤ k.args.x) (10000000000 + 2 ^ 31)
-gained k = plus (kept w64 (exact k.args.sum k.requires.0) (lit< tt)) (kept w64 (read w32 k.ranges.x) (lit< tt))
+gained : (c : After-from)
+    → Holds (to_z w64 (of_z w64 c.args.sum) +ℤ to_z w64 (of_z w64 c.from.result)) (c.args.sum +ℤ c.args.x) (10000000000 + 2 ^ 31)
+gained c = plus (kept w64 (exact c.args.sum c.requires.0) (lit< tt)) (widened c.ranges.x c.from.ensures)
 
 -- and less what leaves
-abbrev leaves : After-result-1 → ℤ
+abbrev leaves : After-from-2 → ℤ
 leaves c = get_or c.args.held.now c.on-j.result (pos 0)
 
-element : (c : After-result-1) → Holds (to_z w32 (of_z w32 (leaves c))) (leaves c) (2 ^ 31)
-element c = read w32 (search rules)
-
-all : (c : After-result-1)
-    → Holds (to_z w64 (of_z w64 (to_z w64 (of_z w64 c.args.sum) +ℤ wide c.args.x)) -ℤ wide (leaves c)) ((c.args.sum +ℤ c.args.x) -ℤ leaves c) (10000000000 + 2 ^ 31 + 2 ^ 31)
-all c = minus (kept w64 (gained c.before.before) (lit< tt)) (kept w64 (element c) (lit< tt))
-
-pub overflow_cast-result : goal.overflow_cast-result
-overflow_cast-result c = sfits w64 (read w32 c.ranges.x) (lit< tt)
+all : (c : After-from-2)
+    → Holds (to_z w64 (of_z w64 (to_z w64 (of_z w64 c.args.sum) +ℤ to_z w64 (of_z w64 c.from.result))) -ℤ to_z w64 (of_z w64 c.from-2.result)) ((c.args.sum +ℤ c.args.x) -ℤ leaves c) (10000000000 + 2 ^ 31 + 2 ^ 31)
+all c = minus (kept w64 (plus (kept w64 (exact c.args.sum c.requires.0) (lit< tt)) (widened c.ranges.x c.from.ensures)) (lit< tt)) (widened (search rules) c.from-2.ensures)
 
 pub overflow_add-result : goal.overflow_add-result
-overflow_add-result c = sfits w64 (gained c.before) (lit< tt)
-
-pub overflow_cast-result-2 : goal.overflow_cast-result-2
-overflow_cast-result-2 c = sfits w64 (element c) (lit< tt)
+overflow_add-result c = sfits w64 (gained c) (lit< tt)
 
 pub overflow_sub-result : goal.overflow_sub-result
 overflow_sub-result c = sfits w64 (all c) (lit< tt)

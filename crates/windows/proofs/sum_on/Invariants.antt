@@ -1,5 +1,5 @@
 use mathlib.Core.Path.{◌≡◌}
-use Prim.Native.Nat.{◌-◌, ◌*◌, ◌≤◌}
+use Prim.Native.Nat.{◌*◌, ◌≤◌}
 use lib.IntN.{nat_abs}
 use lib.ListN.{take}
 use Rattle.rounding.specs.Fraction.{sum_ℤ}
@@ -7,7 +7,4 @@ use Rattle.windows.specs.Ring.{read_from}
 use Rattle.windows.proofs.sum_on.Given as goal
 
 abbrev pub invariant-loop-i : goal.invariant-loop-i
-invariant-loop-i l = (l.i ≤ l.n) × (l.sum ≡ sum_ℤ (take l.i (read_from l.p l.held))) × (nat_abs (sum_ℤ (take l.i (read_from l.p l.held))) ≤ l.i * 2147483648)
-
-abbrev pub decreases-loop-i : goal.decreases-loop-i
-decreases-loop-i l = l.n - l.i
+invariant-loop-i l = (l.sum ≡ sum_ℤ (take l.i (read_from l.p l.held))) × (nat_abs (sum_ℤ (take l.i (read_from l.p l.held))) ≤ l.i * 2147483648)
