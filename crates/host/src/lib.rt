@@ -86,7 +86,7 @@ pub fn windshear_write_header(version: u32, count: u32, buf: &mut [u8]) -> u16
 pub fn windshear_write_record(version: u32, record: Record, buf: &mut [u8]) -> u16
     ensures { (result ≡ write_record_refusal version «record» (length buf.old)) × (buf.new ≡ written_record version «record» buf.old) }
 {
-    format::records::write(version, record, buf)
+    refusal::number_of(format::records::write(version, record, buf))
 }
 
 // A file's own test: 1 to 6, then 11 to 21 with the first bad record's place; or the count of its records and its version.
