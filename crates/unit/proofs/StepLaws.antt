@@ -11,7 +11,7 @@ use Rattle.frames.specs.Frames.{frames_fit}
 use Rattle.rules.specs.Rules.{refusal, entry_limit}
 use Rattle.unit_core.specs.Core.{core_at, frames_of, shear_of, entry_of, core_with, lamps_of, voice_of, guide_of, pitch_of, answer_of, refused_of, shown_by, refusal_by}
 use Rattle.unit.specs.Steps.{beside, push_of, push_times, entry_fits, windows_of, accept_of, passes, refusal_of, offer_of, PlainPromise, Valid}
-use Rattle.windows.specs.Ring.{read_from, back_of, moved_sums}
+use Rattle.windows.specs.declared.Sums.{Sums}
 use Rattle.alerts.specs.Counters.{GuideValid}
 use Rattle.rules.specs.Needs.{InRange}
 use Rattle.unit_core.specs.declared.Answer.{Answer}
@@ -35,35 +35,18 @@ leans t s e =
     let q = frames_passed (refusal s) (frames_of t.core s) p.1 in
     (valid t p.0, in_range_lem s q.0, q.1)
 
--- entries that come in leave the core as it was but for its sums and its place
-times_kept : (n : ℕ) (t : State) (x : ℤ) → (push_times n t x).core ≡ core_at (push_times n t x).core.sums (push_times n t x).core.place t.core
-unfolding push_times push_of core_at
-times_kept zero t x = refl
-times_kept (suc n) t x =
-    let u = push_times n t x in
-    let p = back_of u.core.place in
-    ap (λ (c : Core). core_at (moved_sums (read_from u.core.place u.held) x u.core.sums) p c) (times_kept n t x)
-
-pub entered_is : (t u : State) (s : Sample) (n : ℕ) (x : ℤ) → u ≡ push_times n t x
-    → beside u.held (core_with u.core.sums u.core.place s u.core) ≡ windows_of t s n x
-unfolding windows_of core_with core_at
-entered_is t u s n x e =
-    let v = push_times n t x in
-    ap (λ (w : State). beside w.held (core_with w.core.sums w.core.place s w.core)) e
-    ∙ ap (λ (c : Core). beside v.held (core_with v.core.sums v.core.place s c)) (times_kept n t x)
-
 -- the windows, the lamps and the voice leave guidance as it was
-pub guide_kept : (t : State) (s : Sample) (n : ℕ) (x height : ℤ) {u : State} {lit spoken : Core}
-    → u ≡ windows_of t s n x → lit ≡ lamps_of u.core height n → spoken ≡ voice_of lit s n → Valid t → GuideValid (guide_of spoken)
-unfolding windows_of core_with lamps_of voice_of guide_of
-guide_kept t s n x height w l v h = rw (v, l, w) h.guide
+pub guide_kept : (t : State) (s : Sample) (n : ℕ) (height : ℤ) (sums : Sums) (place : ℕ) {lit spoken : Core}
+    → lit ≡ lamps_of (core_with sums place s t.core) height n → spoken ≡ voice_of lit s n → Valid t → GuideValid (guide_of spoken)
+unfolding core_with lamps_of voice_of guide_of
+guide_kept t s n height sums place l v h = rw (v, l) h.guide
 
 -- the methods one after another are the step
 pub chain : (t : State) (s : Sample) {n : ℕ} {x entry : ℤ} {u : State} {lit spoken end : Core} {a : Answer}
-    → n ≡ frames_of t.core s → x ≡ shear_of t.core s → entry ≡ cut entry_limit x → u ≡ windows_of t s n entry
-    → lit ≡ lamps_of u.core s.height n → spoken ≡ voice_of lit s n → end ≡ pitch_of spoken s n → a ≡ answer_of end x
+    → n ≡ frames_of t.core s → x ≡ shear_of t.core s → entry ≡ cut entry_limit x → u ≡ push_times n t entry
+    → lit ≡ lamps_of (core_with u.core.sums u.core.place s t.core) s.height n → spoken ≡ voice_of lit s n → end ≡ pitch_of spoken s n → a ≡ answer_of end x
     → ◌≡◌ {A = Offered} (record { answer = a; state = beside u.held end }) (accept_of t s)
-unfolding accept_of entry_of shown_by
+unfolding accept_of windows_of entry_of shown_by
 chain t s f e c w l v p a = rw (a, p, v, l, w, c, e, f)
 
 -- a cut shear may come into a ring

@@ -3,7 +3,7 @@
 
 ghost use Rattle.std.specs.Prelude.{◌≡◌, true};
 ghost use Rattle.rules.specs.Refusal.{number_of};
-ghost use Rattle.unit.specs.Steps.{fresh_state, entry_fits, RingValid, push_of, windows_of, refusal_of, PlainPromise};
+ghost use Rattle.unit.specs.Steps.{fresh_state, entry_fits, RingValid, push_of, push_times, refusal_of, PlainPromise};
 
 mod ranges;
 
@@ -49,28 +49,36 @@ impl State {
         self.core.place = windows::back(p) as u16;
     }
 
-    // "Outside the band the windows still fill": by what the sample enters, once for each of its n frames.
-    fn enter(&mut self, s: Sample, n: u16, entry: i32)
+    // The same entry n times.
+    fn fill(&mut self, n: u16, entry: i32)
         requires { RingValid self.old × (entry_fits entry ≡ true) }
-        ensures { self.new ≡ windows_of self.old s n entry }
+        ensures { self.new ≡ push_times n self.old entry }
     {
         for _ in 0..n {
             self.push(entry);
         }
-        self.core.along = s.along;
-        self.core.frame = s.frame;
     }
 
-    // An accepted sample: nothing is tested, and no copy of the ring is made.
+    // An accepted sample: nothing is tested, and no copy of the ring is made. "Outside the band the windows still fill", once for each frame.
+    // Inlined, and the core read before the ring is written: a call, or a core read after it, makes a run a tenth slower.
+    #[inline(always)]
     pub fn step(&mut self, s: Sample) -> Answer
         requires { refusal_of self.old s ≡ 0 }
         ensures { PlainPromise self.old s result self.new }
     {
-        let n = self.core.frames(s);
-        let x = self.core.shear(s, n);
+        let core = self.core;
+        let n = core.frames(s);
+        let x = core.shear(s, n);
         let entry = windows::entry(x);
-        self.enter(s, n, entry);
-        let lit = self.core.lamps(s.height, n);
+        self.fill(n, entry);
+        let filled = Core {
+            sums: self.core.sums,
+            place: self.core.place,
+            along: s.along,
+            frame: s.frame,
+            ..core
+        };
+        let lit = filled.lamps(s.height, n);
         let spoken = lit.voice(s, n);
         let end = spoken.pitch(s, n);
         self.core = end;

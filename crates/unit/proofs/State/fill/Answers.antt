@@ -1,4 +1,4 @@
--- `unit::State::enter` meets its contract: after so many turns the entry has come in so often; then the sample's along wind and number are kept.
+-- `unit::State::fill` meets its contract: after so many turns the entry has come in so often.
 use mathlib.Core.Path.{◌≡◌, refl, sym, ap, ◌∙◌, subst}
 use native.Mathlib.Numerals.{add-one}
 use native.Mathlib.Omega.{arith}
@@ -7,11 +7,10 @@ use mir.Syntax.{w32}
 use mir.Val.{SFits, to_z, of_z}
 use mir.Facts.{to_z-of_z}
 use Rattle.unit_core.specs.Core.{core_with}
-use Rattle.unit.specs.Steps.{push_of, push_times, RingValid}
+use Rattle.unit.specs.Steps.{push_of, push_times, windows_of, RingValid}
 use Rattle.unit.specs.declared.State.{State}
 use Rattle.unit.proofs.Holding.{push_valid}
-use Rattle.unit.proofs.StepLaws.{entered_is}
-use Rattle.unit.proofs.State.enter.Goals as goal
+use Rattle.unit.proofs.State.fill.Goals as goal
 
 pub loop-init : goal.loop-init
 unfolding push_times
@@ -27,12 +26,3 @@ loop-preserved c =
       ring = subst RingValid (sym e) (push_valid c.loop.self (to_z w32 (of_z w32 c.args.entry)) i.fits i.ring);
       times = e ∙ ap (λ (t : State). push_of t (to_z w32 (of_z w32 c.args.entry))) i.times ∙ rw (add-one c.loop.counter);
     }
-
-
-pub returns : goal.returns
-unfolding core_with
-returns c =
-    let n : c.loop.counter ≡ c.args.n = omega arith in
-    let e = rw (n, to_z-of_z c.ranges.entry) at c.loop.invariant.times in
-    let a : SFits w32 c.args.s.along = search rules in
-    rw (to_z-of_z a) (entered_is c.args.self.now c.loop.self c.args.s c.args.n c.args.entry e)

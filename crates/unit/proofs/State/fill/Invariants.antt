@@ -1,7 +1,7 @@
 use mathlib.Core.Bool.{true}
 use mathlib.Core.Path.{◌≡◌}
 use Rattle.unit.specs.Steps.{entry_fits, push_times, RingValid}
-use Rattle.unit.proofs.State.enter.Given as goal
+use Rattle.unit.proofs.State.fill.Given as goal
 
 -- after so many turns the entry has come in so often, into a ring that passes 8
 abbrev pub invariant-loop : goal.invariant-loop
