@@ -1,16 +1,15 @@
 -- A step as its methods, one after another, over plain values: a lone sample's step and a run's both rest on it.
 use mathlib.Core.Bool.{true}
-use mathlib.Core.List.{List}
-use mathlib.Core.Path.{◌≡◌, refl, ap, ◌∙◌}
-use Prim.Native.Nat.{ℕ, zero, suc}
+use mathlib.Core.Path.{◌≡◌}
+use Prim.Native.Nat.{ℕ}
 use native.Mathlib.Omega.{arith}
 use borrow.Author.Tests.{eq-eqb, ne_eqb}
 use lib.IntN.{ℤ}
 use Rattle.rounding.specs.Cut.{cut}
 use Rattle.frames.specs.Frames.{frames_fit}
 use Rattle.rules.specs.Rules.{refusal, entry_limit}
-use Rattle.unit_core.specs.Core.{core_at, frames_of, shear_of, entry_of, core_with, lamps_of, voice_of, guide_of, pitch_of, answer_of, refused_of, shown_by, refusal_by}
-use Rattle.unit.specs.Steps.{beside, push_of, push_times, entry_fits, windows_of, accept_of, passes, refusal_of, offer_of, PlainPromise, Valid}
+use Rattle.unit_core.specs.Core.{frames_of, shear_of, entry_of, core_with, lamps_of, voice_of, guide_of, pitch_of, answer_of, refused_of, shown_by, refusal_by}
+use Rattle.unit.specs.Steps.{beside, push_times, entry_fits, windows_of, accept_of, passes, refusal_of, offer_of, PlainPromise, Valid}
 use Rattle.windows.specs.declared.Sums.{Sums}
 use Rattle.alerts.specs.Counters.{GuideValid}
 use Rattle.rules.specs.Needs.{InRange}
@@ -20,7 +19,6 @@ use Rattle.unit.specs.declared.Offered.{Offered}
 use Rattle.rules.specs.Refusal.{refusal_number}
 use Rattle.rules.specs.declared.Sample.{Sample}
 use Rattle.rules.specs.declared.refusal.Refusal.{Refusal}
-use Rattle.rules.specs.declared.refusal.Refusal.TheVariants.{Short, Mark, Version, Zero, Count, Length, Buffer, Along, Vertical, Airspeed, Height, Pitch, Stall, Climb, Vs1, Mode, Deselect, Frames, HeaderLine, Line}
 use Rattle.unit.specs.declared.State.{State}
 use Rattle.rules.proofs.Choices.{passed}
 use Rattle.unit.proofs.PassLaws.{cut_fits}

@@ -86,14 +86,14 @@ impl State {
     }
 
     // 8, then 11 to 21: the first that fits.
-    #[tactic(auto, unfolding(crate::specs::Steps::refusal_of, unit_core::specs::Core::refusal_by))]
+    #[tactic(auto, unfolding(crate::specs::Steps::refusal_of))]
     fn check(&self, s: Sample) -> Result<(), Refusal>
         ensures { number_of result ≡ refusal_of self.now s }
     {
         if !self.passes() {
             return Err(Refusal::State);
         }
-        s.check_for(self.core.frames(s))
+        self.core.check(s)
     }
 
     // A sample offered in the plain form: refused by the first number that fits, with the state handed back as it was; or answered, with the

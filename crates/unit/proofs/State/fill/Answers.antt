@@ -1,13 +1,10 @@
 -- `unit::State::fill` meets its contract: after so many turns the entry has come in so often.
-use mathlib.Core.Path.{◌≡◌, refl, sym, ap, ◌∙◌, subst}
+use mathlib.Core.Path.{refl, sym, ap, ◌∙◌, subst}
 use native.Mathlib.Numerals.{add-one}
-use native.Mathlib.Omega.{arith}
-use borrow.Author.Rules.{rules}
 use mir.Syntax.{w32}
-use mir.Val.{SFits, to_z, of_z}
+use mir.Val.{to_z, of_z}
 use mir.Facts.{to_z-of_z}
-use Rattle.unit_core.specs.Core.{core_with}
-use Rattle.unit.specs.Steps.{push_of, push_times, windows_of, RingValid}
+use Rattle.unit.specs.Steps.{push_of, push_times, RingValid}
 use Rattle.unit.specs.declared.State.{State}
 use Rattle.unit.proofs.Holding.{push_valid}
 use Rattle.unit.proofs.State.fill.Goals as goal

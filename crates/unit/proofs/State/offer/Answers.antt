@@ -1,5 +1,4 @@
 -- `unit::State::offer` meets its contract: a refusal is answered by its number, which is not 0, and zeros.
-use lib.IntN.{pos}
 use Rattle.unit_core.specs.Core.{refused_of}
 use Rattle.unit.proofs.StepLaws.{refused}
 use Rattle.unit.proofs.State.offer.Goals as goal
