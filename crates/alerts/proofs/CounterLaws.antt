@@ -1,20 +1,40 @@
 -- Bounds of the lamps' and the voice's counters and of escape guidance after a sample, which refusal 8 asks of a state; and the cap.
-use mathlib.Core.Path.{◌≡◌, refl}
+use mathlib.Core.Path.{◌≡◌, refl, sym, ap, ◌∙◌}
 use mathlib.Core.Bool.{Bool, true, false, cond}
 use Prim.Native.Nat.{ℕ, ◌+◌, ◌-◌, ◌*◌, ◌≤◌, ◌<◌, zero-le}
 use native.Mathlib.Nat.{le_refl}
 use native.Mathlib.Omega.{arith}
-use borrow.Author.Tests.{leb-true, leb-false, le-leb, lt-leb}
-use lib.Dec.{ltb, leb, eqb}
+use borrow.Author.Tests.{leb-true, leb-false, le-leb, lt-leb, eq-eqb, ne_eqb, eqb-true}
+use lib.Dec.{ltb, leb, eqb, lit<}
 use lib.IntN.{ℤ, pos, ◌-ℤ◌}
 use lib.Signed.{lt_z, ◌≤ℤ◌, le_z_yes}
+use mir.Syntax.{w32}
+use mir.Val.{SFits, to_z, of_z}
+use mir.Facts.{to_z-of_z}
+use Rattle.std.specs.Bool.{one_answer}
+use Rattle.std.proofs.lemmas.Bool.Decides.{Decides-int_eq}
 use Rattle.rounding.proofs.Difference.{any, nat, +D, le_d, of_le}
 use Rattle.rules.specs.Choice.{neg, same, smaller}
 use Rattle.rules.specs.Rules.{cap, towards, climbing, counted}
 use Rattle.alerts.specs.Counters.{lamp_next, unless_lit, voice_next, no_guide, started_of, continued_of, guide_next}
 use Rattle.rules.specs.declared.Sample.{Sample}
 use Rattle.alerts.specs.declared.pitch.Guide.{Guide}
-use Rattle.rules.proofs.Choices.{cond_has, ≤ℤ-trans, smaller_le_left, smaller_le_right, smaller_ge, larger_ge_left}
+use Rattle.rules.proofs.Choices.{cond_has, int_eq_same, ≤ℤ-trans, smaller_le_left, smaller_le_right, smaller_ge, larger_ge_left}
+
+-- ════ A field that equals another ════
+
+-- the code compares two numbers of 32 bits by their bits
+pub code_same : {a b : ℤ} → SFits w32 a → SFits w32 b → eqb (of_z w32 a) (of_z w32 b) ≡ same a b
+code_same {a} {b} f g =
+    one_answer {P = a ≡ b} (eqb (of_z w32 a) (of_z w32 b)) (same a b)
+    (λ t. sym (to_z-of_z f) ∙ ap (to_z w32) (eqb-true _ _ t) ∙ to_z-of_z g, λ e. eq-eqb _ _ (ap (of_z w32) e))
+    (rw (← int_eq_same a b) (Decides-int_eq a b))
+
+pub is_one : {x : ℤ} → SFits w32 x → of_z w32 x ≡ 1 → same x (pos 1) ≡ true
+is_one f e = sym (code_same f (record { sfits = lit< tt })) ∙ eq-eqb _ _ e
+
+pub not_one : {x : ℤ} → SFits w32 x → (of_z w32 x ≡ 1 → ⊥) → same x (pos 1) ≡ false
+not_one f e = sym (code_same f (record { sfits = lit< tt })) ∙ ne_eqb _ _ e
 
 -- ════ Lamps and voice ════
 

@@ -1,6 +1,8 @@
 -- The counters of the lamps, the voice and escape guidance, from one sample to the next: what the clauses of src/ cite (01, "Lamps and voice" and
 -- "Escape pitch"; 02, A6). They stop where they no longer matter.
 use Rattle.std.specs.Prelude.{Bool, false, not, cond, ℕ, ◌+◌, ◌-◌, ◌≤◌, ltb, leb, eqb, ℤ, pos, nat_abs}
+use Rattle.alerts.specs.declared.lamps.AlertLevel.{AlertLevel}
+use Rattle.alerts.specs.declared.lamps.AlertLevel.TheVariants.{None, Amber, Red}
 use Rattle.alerts.specs.declared.pitch.Guide.{Guide}
 use Rattle.rules.specs.Choice.{same, smaller}
 use Rattle.rules.specs.Rules.{cap, towards, counted}
@@ -14,6 +16,11 @@ lamp_next n frames on = cond (eqb n 0) (cond on 1 0) (cond (leb (n + frames) 60)
 
 unfoldable pub unless_lit : ℕ → ℕ → ℕ
 unless_lit red amber = cond (ltb 0 red) 0 amber
+
+abbrev pub alert_number : AlertLevel → ℕ
+alert_number None = 0
+alert_number Amber = 1
+alert_number Red = 2
 
 -- 2 red, 1 amber, 0 none
 unfoldable pub alert_of : ℕ → ℕ → ℕ

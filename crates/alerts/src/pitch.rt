@@ -1,65 +1,49 @@
 // Escape guidance, its count in frames (01, "Escape pitch"; 02, A6).
-ghost use Rattle.std.specs.Prelude.{◌≡◌, ◌&&◌, ◌≤◌, ◌<◌, nat_abs};
-ghost use Rattle.rules.specs.Choice.{smaller, larger, same};
+ghost use Rattle.std.specs.Prelude.{◌≡◌, ◌≤◌, ◌<◌, nat_abs};
 ghost use Rattle.rules.specs.Rules.{cap, towards, climbing, counted};
 ghost use Rattle.rules.specs.Needs.{InRange};
-ghost use Rattle.alerts.specs.Counters.{GuideValid, no_guide, started_of, continued_of, guide_next, shown_of};
+ghost use Rattle.alerts.specs.Counters.{GuideValid, started_of, continued_of, guide_next, shown_of};
 
 use rules::Sample;
 
 // Guidance: count is 0 while it is off, else one more than the frames in a row that have counted towards its end.
-#[derive(Clone, Copy)]
+#[derive(Clone, Copy, Debug, Default, PartialEq, Eq)]
 pub struct Guide {
     pub count: u16,
     pub command: i32,
 }
 
-fn smaller(a: i32, b: i32) -> i32
-    ensures { result ≡ smaller a b }
-{
-    if a < b { a } else { b }
-}
-
-fn larger(a: i32, b: i32) -> i32
-    ensures { result ≡ larger a b }
-{
-    if a < b { b } else { a }
-}
-
-fn equal(a: i32, b: i32) -> bool
-    ensures { result ≡ same a b }
-{
-    a <= b && b <= a
-}
-
+#[tactic(auto, unfolding(rules::specs::Rules::cap, rules::specs::Choice::smaller))]
 fn cap(s: Sample) -> i32
     ensures { result ≡ cap s }
 {
-    smaller(27000, s.stall)
+    s.stall.min(27000)
 }
 
 // 75 for each of n frames.
+#[tactic(auto, unfolding(rules::specs::Rules::towards, rules::specs::Choice::smaller, rules::specs::Choice::larger))]
 fn towards(n: u16, c: i32) -> i32
     requires { (n ≤ 20) × (nat_abs c ≤ 30000) }
     ensures { result ≡ towards n c }
 {
-    let most = 75 * n as i32;
+    let most = 75 * i32::from(n);
     if c < 15000 {
-        return smaller(15000, c + most);
+        (c + most).min(15000)
+    } else {
+        (c - most).max(15000)
     }
-    larger(15000, c - most)
 }
 
+#[tactic(auto, unfolding(rules::specs::Rules::climbing))]
 fn climbing(s: Sample) -> bool
     requires { InRange s }
     ensures { result ≡ climbing s }
 {
-    let need = s.vs1 * 13;
-    let have = s.airspeed * 10;
-    0 < s.climb && need < have
+    0 < s.climb && s.vs1 * 13 < s.airspeed * 10
 }
 
 // The count after a sample that adds so many frames where it counts.
+#[tactic(auto, unfolding(rules::specs::Rules::counted))]
 fn counted(s: Sample, added: u16, count: u16) -> u16
     requires { InRange s × (added ≤ 20) × (count ≤ 600) }
     ensures { result ≡ counted s added count }
@@ -67,65 +51,56 @@ fn counted(s: Sample, added: u16, count: u16) -> u16
     if climbing(s) { count + added } else { 0 }
 }
 
-fn off() -> Guide
-    ensures { result ≡ no_guide }
-{
-    Guide {
-        count: 0,
-        command: 0,
-    }
-}
-
+#[tactic(auto, using(crate::proofs::CounterLaws::counted_le), unfolding(crate::specs::Counters::started_of, rules::specs::Choice::smaller))]
 fn started(s: Sample) -> Guide
     requires { InRange s }
     ensures { result ≡ started_of s }
 {
-    let n = counted(s, 1, 0);
-    let top = cap(s);
     Guide {
-        count: n + 1,
-        command: smaller(s.pitch, top),
+        count: counted(s, 1, 0) + 1,
+        command: cap(s).min(s.pitch),
     }
 }
 
 impl Guide {
-    #[tactic(auto, using(crate::proofs::CounterLaws::ends))]
+    #[tactic(auto, using(crate::proofs::CounterLaws::counted_le), unfolding(crate::specs::Counters::continued_of, crate::specs::Counters::no_guide, rules::specs::Choice::smaller))]
     fn continued(self, s: Sample, n: u16) -> Guide
         requires { GuideValid self × InRange s × (n ≤ 20) × (0 < self.count) }
         ensures { result ≡ continued_of self s n }
     {
         let count = counted(s, n, self.count - 1);
         if 600 <= count {
-            return off();
+            return Guide::default();
         }
-        let top = cap(s);
         Guide {
             count: count + 1,
-            command: smaller(towards(n, self.command), top),
+            command: cap(s).min(towards(n, self.command)),
         }
     }
 
     // "Guidance ends at a sample with deselect, which beats a start"; "an end beats a coming-on".
+    #[tactic(auto, using(crate::proofs::CounterLaws::is_one, crate::proofs::CounterLaws::not_one), unfolding(crate::specs::Counters::guide_next, crate::specs::Counters::no_guide))]
     pub fn next(self, s: Sample, n: u16, comes: bool) -> Guide
         requires { GuideValid self × InRange s × (n ≤ 20) }
         ensures { result ≡ guide_next self s n comes }
     {
-        if equal(s.deselect, 1) {
-            return off();
+        if s.deselect == 1 {
+            return Guide::default();
         }
-        if self.count == 0 {
-            if comes {
-                return started(s);
-            }
-            return off();
+        if 0 < self.count {
+            self.continued(s, n)
+        } else if comes {
+            started(s)
+        } else {
+            Guide::default()
         }
-        self.continued(s, n)
     }
 }
 
 // 1 where the command is shown.
+#[tactic(auto, unfolding(crate::specs::Counters::shown_of))]
 pub fn shown(count: u16) -> u16
     ensures { result ≡ shown_of count }
 {
-    if count == 0 { 0 } else { 1 }
+    u16::from(count != 0)
 }

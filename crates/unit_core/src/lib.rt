@@ -142,7 +142,7 @@ impl Core {
     {
         Answer {
             refusal: 0,
-            alert: lamps::alert(self.red, self.amber),
+            alert: u16::from(lamps::alert(self.red, self.amber)),
             voice: voice::cycle(self.voice),
             guidance: pitch::shown(self.guidance),
             command: self.command,
