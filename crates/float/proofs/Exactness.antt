@@ -1,7 +1,7 @@
 -- Whether a float is exact, by its hundredths and by quarters of a knot; what its cut tells; and whether it is exact by the fields of its pattern:
 -- the sign s, the exponent's field e and the digits t. Where e is neither 0 nor 255 the number is ± (8388608 + t) × 2 ^ e / 2 ^ 150.
 use mathlib.Core.Path.{◌≡◌, refl, sym, ap, ◌∙◌}
-use mathlib.Core.Bool.{Bool, true, false, cond}
+use mathlib.Core.Bool.{Bool, true, false}
 use Prim.Native.Nat.{ℕ, zero, suc, ◌+◌, ◌-◌, ◌*◌, ◌/◌, ◌%◌, ◌^◌, ◌≤◌, ◌<◌}
 use native.Mathlib.Nat.{pow-succ', add-zero, mod-eq_of_lt, mul-mod_left, mul_right_comm, mul-pos, one-mul, div-add-mod', eq_of_mul-eq-mul_right, lt_of_lt_of_le}
 use native.Mathlib.Decide.{dec_lt}
@@ -39,12 +39,7 @@ whole_too n d k f p h z =
     ap (λ (x : ℕ). x % f) g ∙ mul-mod_left q f
 
 whole_same : (n d k f : ℕ) → 0 < d → 0 < f → n * f ≡ k * d → eqb (n % d) 0 ≡ eqb (k % f) 0
-whole_same n d k f p q h = go (eqb (n % d) 0) (eqb (k % f) 0) refl refl
-  where
-    go : (a b : Bool) → eqb (n % d) 0 ≡ a → eqb (k % f) 0 ≡ b → a ≡ b
-    go true b u v = sym (eq-eqb (k % f) 0 (whole_too n d k f p h (eqb-true (n % d) 0 u))) ∙ v
-    go false true u v = sym u ∙ eq-eqb (n % d) 0 (whole_too k f n d q (sym h) (eqb-true (k % f) 0 v))
-    go false false u v = refl
+whole_same n d k f p q h = grind (arith, whole_too n d k f p h, whole_too k f n d q (sym h))
 
 -- one below 1 that is not 0 is not whole
 fraction : (n d : ℕ) → 0 < n → n < d → eqb (n % d) 0 ≡ false
@@ -188,17 +183,9 @@ large s x t h k =
 
 no_number : (s : Bool) (t : ℕ) → exact_float (of_fields binary32 s 255 t) ≡ false
 unfolding of_fields exact_float
-no_number s t = go (eqb t 0)
-  where
-    go : (b : Bool) → exact_float (cond b (inf s) nan) ≡ false
-    go true = refl
-    go false = refl
+no_number s t = grind arith
 
 -- ════ By the pattern b, in the four ways of the code ════
-
--- a divisor that is a power of two, none of it shifted out
-pub divisor : (k : ℕ) → k < 32 → 0 < 1 * 2 ^ k % 4294967296
-divisor k h = rw (shl_exact {a = 1} 1 k 32 (lit< tt) (omega arith), one-mul) (pow_pos k)
 
 module _ (b : ℕ) where
   abbrev s : Bool
