@@ -2,7 +2,7 @@
 // Where a run can't be read or its listing can't be written, it says so in one line on standard error: a fault is no verdict on the file.
 #![tactic(auto)]
 
-ghost use Rattle.std.specs.Prelude.{◌≡◌, length, take};
+ghost use Rattle.std.specs.Prelude.{◌≡◌, length, take, IfOk};
 ghost use Rattle.listing.specs.Counts.{IsPrefixLen};
 ghost use Rattle.catalog.specs.Listing.{listing_of, most_read};
 
@@ -17,45 +17,25 @@ const ROOM: usize = 64 * (header::MOST + 2);
 // "up to 65,009 bytes" (02, A6): one more than the longest run has, which is of version 2.
 const MOST_READ: usize = header::SIZE + record::SIZE_2 * header::MOST_2 + 1;
 
-// How many bytes were read, and why a read failed before the input's end, if one did.
-#[derive(Clone, Copy)]
-struct Input {
-    length: usize,
-    failed: Option<Error>,
-}
-
-// Reads until the buffer is full, the input ends or a read fails. A read that a signal interrupts is tried again. A proved loop has to
-// end, and nothing says that the input does: so the turns are counted down, from a number that no input uses up.
-fn read_input(stdin: Stdin, file: &mut [u8]) -> Input
+// Reads until the buffer is full, the input ends or a read fails, and says how many bytes it has. A read that a signal interrupts is tried
+// again. A proved loop has to end, and nothing says that the input does: so the turns are counted, up to a number that no input uses up.
+fn read_input(mut stdin: Stdin, file: &mut [u8]) -> Result<usize, Error>
     requires { length file.old ≡ most_read }
-    ensures { IsPrefixLen result.length file.new }
+    ensures { IfOk result (λ n. IsPrefixLen n file.new) }
 {
-    let mut from = stdin;
-    let mut done: usize = 0;
-    let mut turns = u64::MAX;
-    while done < file.len() && turns > 0 {
-        match from.read(&mut file[done..]) {
-            Ok(0) => break,
-            Ok(n) => done += n,
-            Err(e) => {
-                if !matches!(e.kind(), ErrorKind::Interrupted) {
-                    return Input {
-                        length: done,
-                        failed: Some(e),
-                    };
-                }
-            }
+    let mut done = 0;
+    for _ in 0..u64::MAX {
+        if done == file.len() {
+            return Ok(done);
         }
-        turns -= 1;
+        match stdin.read(&mut file[done..]) {
+            Ok(0) => return Ok(done),
+            Ok(n) => done += n,
+            Err(e) if e.kind() == ErrorKind::Interrupted => {}
+            Err(e) => return Err(e),
+        }
     }
-    Input {
-        length: done,
-        failed: if turns == 0 {
-            Some(Error::from(ErrorKind::TimedOut))
-        } else {
-            None
-        },
-    }
+    Err(Error::from(ErrorKind::TimedOut))
 }
 
 // The file's listing, whole, at the start of a buffer that has room for every file's.
@@ -67,28 +47,29 @@ fn whole_listing(file: &[u8], out: &mut [u8; ROOM]) -> usize
 
 // Says what failed in a line on standard error: what, and the system's words for why, without the number that std puts after them.
 fn fail(rt: HostRuntime, what: &str, error: Error) {
-    let Ok(text) = format!(in rt.alloc(); "{error}") else {
-        let _ = eprintln!(rt; "{what}: {error}");
-        return;
-    };
-    let words = text.as_str();
-    let why = match words.split_once(" (os error ") {
-        Some((why, _)) => why,
-        None => words,
-    };
+    // std's text of an error has at most 256 bytes and the number
+    let mut text = [0u8; 512];
+    let mut rest = &mut text[..];
+    let _ = write!(rest, "{error}");
+    let left = rest.len();
+    let len = text.len().saturating_sub(left);
+    let words = str::from_utf8(&text[..len]).unwrap_or("");
+    let why = words
+        .split_once(" (os error ")
+        .map_or(words, |(why, _)| why);
     let _ = eprintln!(rt; "{what}: {why}");
 }
 
 // Writes all of it, or says why a write failed. One that a signal interrupts or that takes nothing has failed.
-fn write_whole(stdout: Stdout, listing: &[u8]) -> Result<(), Error> {
-    let mut to = stdout;
-    let mut done: usize = 0;
-    while done < listing.len() {
-        let n = to.write(&listing[done..])?;
+// kept: (a) std's write_all tries an interrupted write again, where this program has always said that it failed.
+fn write_whole(mut stdout: Stdout, listing: &[u8]) -> Result<(), Error> {
+    let mut rest = listing;
+    while !rest.is_empty() {
+        let n = stdout.write(rest)?;
         if n == 0 {
             return Err(Error::from(ErrorKind::WriteZero));
         }
-        done += n;
+        rest = &rest[n..];
     }
     Ok(())
 }
@@ -107,11 +88,8 @@ fn main(rt: HostRuntime) {
         return;
     }
     let mut file = [0u8; MOST_READ];
-    let input = read_input(rt.stdin(), &mut file);
-    if let Some(e) = input.failed {
-        fail(rt, "listing: standard input can't be read", e);
-        return;
+    match read_input(rt.stdin(), &mut file) {
+        Ok(n) => print_listing(rt, &file[..n]),
+        Err(e) => fail(rt, "listing: standard input can't be read", e),
     }
-    let n = input.length;
-    print_listing(rt, &file[..n]);
 }
