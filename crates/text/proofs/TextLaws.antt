@@ -1,89 +1,15 @@
--- Laws of texts and of buffers: that texts written one after the other are one text, how long a number's text is, and which bytes it has not.
+-- Laws of texts: how long a number's text is, and which bytes it has not.
 use mathlib.Core.Bool.{Bool, true, false, not, ◌&&◌, ◌||◌, cond}
-use mathlib.Core.List.{List, [], ◌∷◌, ◌++◌, append_assoc}
+use mathlib.Core.List.{List, [], ◌∷◌, ◌++◌}
 use mathlib.Core.Path.{◌≡◌, refl, sym, ap, ◌∙◌, subst}
 use Prim.Native.Nat.{ℕ, zero, suc, ◌+◌, ◌/◌, ◌%◌, ◌^◌, ◌≤◌, ◌<◌}
-use native.Mathlib.Nat.{add-zero}
-use native.Mathlib.Numerals.{add-one}
 use native.Mathlib.Omega.{arith}
 use borrow.Author.Tests.{lt-ltb, le-ltb, le-leb, ltb-true, ne_eqb}
 use lib.Dec.{T, ltb, leb, eqb}
 use lib.IntN.{ℤ, pos, negsuc, nat_abs}
-use lib.Signed.{lt_z, mag}
-use lib.ListN.{length, take, drop, set, length-append, length-drop, take-append-drop}
-use lib.Seq.{length-take-le, take_at, drop-append-add, drop-drop, set_split}
-use Rattle.text.specs.Text.{ascii, absent, digit, digits, decimal, hundredths, signed_by, signed, knots, written, Wrote}
-
--- ════ Buffers ════
-
--- the front of a buffer, and a text after it
-front : (old : List ℕ) (at : ℕ) (text : List ℕ) → at + length text ≤ length old → length (take at old ++ text) ≡ at + length text
-front old at text h =
-    let k : length (take at old) ≡ at = length-take-le at old (omega arith) in
-    length-append (take at old) text ∙ ap (λ (n : ℕ). n + length text) k
-
--- a buffer with a text in it: the front with the text, and what was behind it
-split : (old : List ℕ) (at : ℕ) (text : List ℕ) → written old at text ≡ take at old ++ text ++ drop (at + length text) old
-unfolding written
-split old at text = sym (append_assoc (take at old) text (drop (at + length text) old))
-
-pub length_written : (old : List ℕ) (at : ℕ) (text : List ℕ) → at + length text ≤ length old → length (written old at text) ≡ length old
-length_written old at text h =
-    let e = front old at text h in
-    rw (split, length-append, e, length-drop) (omega arith)
-
-pub written_then : (old : List ℕ) (at : ℕ) (a b : List ℕ) → at + length a + length b ≤ length old
-    → written (written old at a) (at + length a) b ≡ written old at (a ++ b)
-written_then old at a b h =
-    let p : List ℕ = take at old ++ a in
-    let rest : List ℕ = drop (at + length a) old in
-    let e : length p ≡ at + length a = front old at a (omega arith) in
-    let n : at + length (a ++ b) ≡ at + length a + length b = simp length-append (omega arith) in
-    let behind = (rw e at (drop-append-add p rest (length b))) ∙ drop-drop (length b) (at + length a) old in
-    rw (split old at a, split (p ++ rest), take_at p rest (at + length a) e, behind, split, n, append_assoc (take at old) a b)
-
--- a store is a text of one byte
-pub written_byte : (old : List ℕ) (at b : ℕ) → at < length old → set old at b ≡ written old at (b ∷ [])
-unfolding written
-written_byte old at b h = rw add-one (set_split old at b h)
-
--- a text that grows, call by call: it is written, and there is room behind it for `left` bytes more
-pub record Grown (old : List ℕ) (at : ℕ) (text : List ℕ) (after : ℕ) (new : List ℕ) (left : ℕ) : Type 0 where
-  pub is : Wrote old at text after new
-  pub fits : at + length text + left ≤ length old
-
-pub nothing : {old : List ℕ} {at left : ℕ} → at + left ≤ length old → Grown old at [] at old left
-unfolding written
-nothing {old} {at} h =
-    record {
-      is = (sym (add-zero at), sym (rw add-zero (take-append-drop at old)));
-      fits = rw add-zero h;
-    }
-
--- the buffer is as long as it was
-pub kept : {old : List ℕ} {at : ℕ} {text : List ℕ} {after : ℕ} {new : List ℕ} {left : ℕ}
-    → Grown old at text after new left → length new ≡ length old
-kept {old} {at} {text} g = ap length g.is.1 ∙ length_written old at text (omega (arith, g.fits))
-
--- so the next text may be as long as the room
-pub room : {old : List ℕ} {at : ℕ} {text : List ℕ} {after : ℕ} {new : List ℕ} {left : ℕ}
-    → Grown old at text after new left → after + left ≤ length new
-room g = omega (arith, g.is.0, g.fits, kept g)
-
--- the next text
-pub next : {old : List ℕ} {at : ℕ} {a : List ℕ} {p : ℕ} {mid : List ℕ} {left : ℕ} (b : List ℕ) {q : ℕ} {new : List ℕ} {rest : ℕ}
-    → Grown old at a p mid left → length b + rest ≤ left → Wrote mid p b q new → Grown old at (a ++ b) q new rest
-next {old} {at} {a} b g h w =
-    let f : at + length a + length b ≤ length old = omega (arith, g.fits) in
-    record {
-      is = (w.0 ∙ rw (g.is.0, length-append) (omega arith), w.1 ∙ rw (g.is.1, g.is.0) (written_then old at a b f));
-      fits = rw length-append (omega (arith, g.fits));
-    }
-
--- the last text
-pub last : {old : List ℕ} {at : ℕ} {a : List ℕ} {p : ℕ} {mid : List ℕ} {left : ℕ} (b : List ℕ) {q : ℕ} {new : List ℕ}
-    → Grown old at a p mid left → length b ≤ left → Wrote mid p b q new → Wrote old at (a ++ b) q new
-last b g h w = (next b {rest = 0} g (omega arith) w).is
+use lib.Signed.{lt_z}
+use lib.ListN.{length, length-append}
+use Rattle.text.specs.Text.{ascii, absent, digit, digits, decimal, hundredths, signed_by, signed, knots}
 
 -- ════ Numbers ════
 
@@ -149,16 +75,6 @@ decimal_some n = go (ltb n 10)
     go false = rw length-append (omega arith)
 
 -- ════ Signs ════
-
-pub negative : (x : ℤ) → lt_z x (pos 0) ≡ true → x ≡ negsuc (mag x)
-negative (pos n) e =
-    let h : n < 0 = ltb-true n 0 e in
-    absurd (omega arith)
-negative (negsuc n) e = refl
-
-pub natural : (x : ℤ) → lt_z x (pos 0) ≡ false → x ≡ pos (mag x)
-natural (pos n) e = refl
-natural (negsuc n) e = absurd (subst T e tt)
 
 -- the minus before a negative number
 abbrev pub sign_text : ℤ → List ℕ

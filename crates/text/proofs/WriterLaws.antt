@@ -1,11 +1,11 @@
 -- Laws of a writer: texts written one after the other are one text.
 use mathlib.Core.List.{List, [], ◌∷◌, ◌++◌, append_assoc, append-nil}
-use mathlib.Core.Path.{◌≡◌, refl, sym, ◌∙◌}
+use mathlib.Core.Path.{◌≡◌, refl, sym, ap, ◌∙◌}
 use Prim.Native.Nat.{ℕ, suc, ◌+◌}
 use native.Mathlib.Nat.{add-zero}
 use native.Mathlib.Numerals.{add-one}
 use native.Mathlib.Omega.{arith}
-use lib.ListN.{length, take, drop, set, length-append, length-drop, take-append-drop}
+use lib.ListN.{length, take, drop, set, length-append, length-drop, drop_of_length-le, take-append-drop}
 use lib.Seq.{length-take-le, take_at, drop-drop, drop-append_seam, set_split}
 use Rattle.text.specs.Text.{written, Wrote}
 use Rattle.text.specs.Writer.{Puts, HasRoom}
@@ -66,3 +66,10 @@ unfolding written
 wrote {w} {x} {text} p =
     let old = w.out.now in
     (p.place, sym (take-append-drop x.at x.out.now) ∙ rw (p.before, p.behind, drop-drop (length text) w.at old) (append_assoc (take w.at old) text _))
+
+-- a text as long as the buffer fills it
+pub filled : {w x : Writer} {text : List ℕ} → Puts w text x → w.at ≡ 0 → length w.out.now ≡ length text → x.out.now ≡ text
+unfolding written
+filled {w} {x} {text} p first fits =
+    let none = drop_of_length-le w.out.now {i = 0 + length text} (omega arith) in
+    (rw first at (wrote p)).1 ∙ ap (λ (rest : List ℕ). text ++ rest) none ∙ append-nil text

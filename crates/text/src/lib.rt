@@ -4,8 +4,6 @@
 ghost use Rattle.std.specs.Prelude.{cond, [], ◌∷◌, ◌≡◌, ◌+◌, ◌<◌, length};
 ghost use Rattle.text.specs.Text.{ascii, digit, decimal, hundredths, signed, knots};
 
-pub mod write;
-
 // A lent buffer, and the place where the next text goes.
 // A `requires` asks room for the text and no more (`sign` asks for one byte: a number has a digit), so that a buffer may be as long as its text.
 #[derive(Drop)]
