@@ -18,7 +18,8 @@ use Rattle.rules.specs.declared.Sample.{Sample}
 use Rattle.exchange.specs.Claims.{fewest, PlainFields}
 use Rattle.csv_rows.specs.Csv.{Numbers, speeds, comma, quote, lf, number_in, and_then, numbers_of, sample_from, numbers_in}
 use Rattle.export.specs.Export.{number_text, field_texts}
-use Rattle.exchange.proofs.JoinLaws.{Some, Field}
+use Rattle.exchange.proofs.JoinLaws.{Field}
+use Rattle.exchange.proofs.JoinLaws.{Some as SomePieces}
 
 -- each number is one that its text gives back
 abbrev pub Limited : List ℤ → Type 0
@@ -136,7 +137,7 @@ numbers_same fields n e = ten n (numbers_length speeds fields n e)
 unfoldable pub sample_texts : Sample → List (List ℕ)
 sample_texts s = field_texts speeds (numbers_in s)
 
-pub some_texts : (s : Sample) → Some (sample_texts s)
+pub some_texts : (s : Sample) → SomePieces (sample_texts s)
 unfolding sample_texts field_texts speeds numbers_in
 some_texts s = record { first = _; more = _; is = refl }
 
