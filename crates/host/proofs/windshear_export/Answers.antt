@@ -1,5 +1,0 @@
--- `host::windshear_export` meets its contract: it promises what `export` does.
-use Rattle.host.proofs.windshear_export.Goals as goal
-
-pub returns : goal.returns
-returns c = c.before.before.export.ensures
