@@ -6,7 +6,6 @@ ghost use Rattle.rules.specs.Choice.{within};
 ghost use Rattle.rules.specs.Refusal.{number_of};
 ghost use Rattle.rules.specs.Rules.{refusal, then_frames};
 
-pub mod ranges;
 pub mod refusal;
 pub mod shear;
 
@@ -60,13 +59,6 @@ impl Sample {
         } else {
             Err(Refusal::Frames)
         }
-    }
-
-    // 0, or the first of 11 to 20 that fits the sample.
-    pub fn refusal(self) -> u16
-        ensures { result ≡ refusal self }
-    {
-        refusal::number_of(self.check())
     }
 }
 
