@@ -1,17 +1,8 @@
 // What a core is refused by, as far as 8 tests it (01, "Refusal numbers").
 ghost use Rattle.std.specs.Prelude.{◌≡◌};
-ghost use Rattle.unit_core.specs.Core.{counters_fit, last_fits, refusal_by};
+ghost use Rattle.unit_core.specs.Core.{counters_fit, last_fits};
 
 use crate::Core;
-use rules::Sample;
-use rules::refusal::number_of;
-
-// 0, or the first of 11 to 21 that fits a sample after those that a core has seen.
-pub fn refusal_by(core: Core, s: Sample) -> u16
-    ensures { result ≡ refusal_by core s }
-{
-    number_of(core.check(s))
-}
 
 // Whether every counter is at most 600.
 #[tactic(auto, unfolding(crate::specs::Core::counters_fit))]

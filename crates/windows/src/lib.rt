@@ -5,7 +5,7 @@ ghost use Rattle.std.specs.Prelude.{◌≡◌, ◌*◌, ◌≤◌, ◌<◌, nat_
 ghost use Rattle.rounding.specs.Cut.{cut};
 ghost use Rattle.rounding.specs.Fraction.{sum_ℤ};
 ghost use Rattle.rules.specs.Rules.{entry_limit, row};
-ghost use Rattle.windows.specs.Ring.{back_of, on_of, read_from, moved_of, moved_sums, sums_of, same_sums, SumsWithin, reached, met_of};
+ghost use Rattle.windows.specs.Ring.{back_of, on_of, read_from, moved_of, moved_sums, sums_of, SumsWithin, reached, met_of};
 
 // The sums of the six windows, the longest first.
 #[repr(C)]
@@ -116,14 +116,6 @@ fn reaches(sum: i64, samples: u32, value: u32, up: bool) -> bool
 }
 
 impl Sums {
-    // Whether each sum is the other's.
-    #[tactic(auto, using(rules::proofs::Choices::int_eq_same), unfolding(crate::specs::Ring::same_sums))]
-    pub fn equal(self, other: Sums) -> bool
-        ensures { result ≡ same_sums self other }
-    {
-        self == other
-    }
-
     // Whether some window is met, upward or downward.
     pub fn met(self, up: bool) -> bool
         ensures { result ≡ met_of up self }
