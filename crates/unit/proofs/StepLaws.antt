@@ -21,6 +21,7 @@ use Rattle.rules.specs.declared.Sample.{Sample}
 use Rattle.rules.specs.declared.refusal.Refusal.{Refusal}
 use Rattle.unit.specs.declared.State.{State}
 use Rattle.rules.proofs.Choices.{passed}
+use Rattle.rules.proofs.RefusalLaws.{number_positive}
 use Rattle.unit.proofs.PassLaws.{cut_fits}
 use Rattle.rules.proofs.RangeLaws.{frames_passed, in_range_lem}
 use Rattle.unit.proofs.ValidLaws.{valid}
@@ -57,10 +58,7 @@ pub promised : (t : State) (s : Sample) {a : Answer} {u : State} → refusal_of 
 unfolding PlainPromise offer_of
 promised t s z e = rw (eq-eqb _ _ z) e
 
--- each refusal has a number, and it is answered with zeros beside it
-numbered : (r : Refusal) → refusal_number r ≡ 0 → ⊥
-numbered r e = grind arith
-
+-- a refusal is answered by its number, with zeros beside it
 pub refused : (t : State) (s : Sample) (r : Refusal) → refusal_number r ≡ refusal_of t s → PlainPromise t s (refused_of (refusal_number r)) t
 unfolding PlainPromise offer_of
-refused t s r e = rw (← e, ne_eqb _ _ (numbered r))
+refused t s r e = let p = number_positive r in rw (← e, ne_eqb (refusal_number r) 0 (λ z. omega arith))
