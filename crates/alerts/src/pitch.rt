@@ -1,10 +1,9 @@
 // Escape guidance, its count in frames (01, "Escape pitch"; 02, A6).
 ghost use Rattle.std.specs.Prelude.{◌≡◌, ◌≤◌, ◌<◌, nat_abs};
 ghost use Rattle.rules.specs.Rules.{cap, towards, climbing, counted};
-ghost use Rattle.rules.specs.Needs.{InRange};
 ghost use Rattle.alerts.specs.Counters.{GuideValid, started_of, continued_of, guide_next, shown_of};
 
-use rules::Sample;
+use rules::{Accepted, Sample};
 
 // Guidance: count is 0 while it is off, else one more than the frames in a row that have counted towards its end.
 #[derive(Clone, Copy, Debug, Default, PartialEq, Eq)]
@@ -35,38 +34,36 @@ fn towards(n: u16, c: i32) -> i32
 }
 
 #[tactic(auto, unfolding(rules::specs::Rules::climbing))]
-fn climbing(s: Sample) -> bool
-    requires { InRange s }
-    ensures { result ≡ climbing s }
+fn climbing(s: Accepted) -> bool
+    ensures { result ≡ climbing s.sample }
 {
-    0 < s.climb && s.vs1 * 13 < s.airspeed * 10
+    0 < s.sample.climb && s.sample.vs1 * 13 < s.sample.airspeed * 10
 }
 
 // The count after a sample that adds so many frames where it counts.
 #[tactic(auto, unfolding(rules::specs::Rules::counted))]
-fn counted(s: Sample, added: u16, count: u16) -> u16
-    requires { InRange s × (added ≤ 20) × (count ≤ 600) }
-    ensures { result ≡ counted s added count }
+fn counted(s: Accepted, added: u16, count: u16) -> u16
+    requires { (added ≤ 20) × (count ≤ 600) }
+    ensures { result ≡ counted s.sample added count }
 {
     if climbing(s) { count + added } else { 0 }
 }
 
 #[tactic(auto, using(crate::proofs::CounterLaws::counted_le), unfolding(crate::specs::Counters::started_of, rules::specs::Choice::smaller))]
-fn started(s: Sample) -> Guide
-    requires { InRange s }
-    ensures { result ≡ started_of s }
+fn started(s: Accepted) -> Guide
+    ensures { result ≡ started_of s.sample }
 {
     Guide {
         count: counted(s, 1, 0) + 1,
-        command: cap(s).min(s.pitch),
+        command: cap(s.sample).min(s.sample.pitch),
     }
 }
 
 impl Guide {
     #[tactic(auto, using(crate::proofs::CounterLaws::counted_le), unfolding(crate::specs::Counters::continued_of, crate::specs::Counters::no_guide, rules::specs::Choice::smaller))]
-    fn continued(self, s: Sample, n: u16) -> Guide
-        requires { GuideValid self × InRange s × (n ≤ 20) × (0 < self.count) }
-        ensures { result ≡ continued_of self s n }
+    fn continued(self, s: Accepted, n: u16) -> Guide
+        requires { GuideValid self × (n ≤ 20) × (0 < self.count) }
+        ensures { result ≡ continued_of self s.sample n }
     {
         let count = counted(s, n, self.count - 1);
         if 600 <= count {
@@ -74,17 +71,17 @@ impl Guide {
         }
         Guide {
             count: count + 1,
-            command: cap(s).min(towards(n, self.command)),
+            command: cap(s.sample).min(towards(n, self.command)),
         }
     }
 
     // "Guidance ends at a sample with deselect, which beats a start"; "an end beats a coming-on".
     #[tactic(auto, using(crate::proofs::CounterLaws::is_one, crate::proofs::CounterLaws::not_one), unfolding(crate::specs::Counters::guide_next, crate::specs::Counters::no_guide))]
-    pub fn next(self, s: Sample, n: u16, comes: bool) -> Guide
-        requires { GuideValid self × InRange s × (n ≤ 20) }
-        ensures { result ≡ guide_next self s n comes }
+    pub fn next(self, s: Accepted, n: u16, comes: bool) -> Guide
+        requires { GuideValid self × (n ≤ 20) }
+        ensures { result ≡ guide_next self s.sample n comes }
     {
-        if s.deselect == 1 {
+        if s.sample.deselect == 1 {
             return Guide::default();
         }
         if 0 < self.count {

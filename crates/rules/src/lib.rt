@@ -3,6 +3,7 @@
 
 ghost use Rattle.std.specs.Prelude.{true, false, ◌≡◌, OnOk, IfErr};
 ghost use Rattle.rules.specs.Choice.{within};
+ghost use Rattle.rules.specs.Needs.{InRange};
 ghost use Rattle.rules.specs.Refusal.{number_of};
 ghost use Rattle.rules.specs.Rules.{refusal, then_frames};
 
@@ -28,6 +29,13 @@ pub struct Sample {
     pub deselect: i32,
     // the host's number of this frame, of 16 bits that go round (02, A6)
     pub frame: u16,
+}
+
+// A sample that no number of 11 to 20 fits, as far as the arithmetic leans on it.
+#[derive(Clone, Copy)]
+pub struct Accepted {
+    pub sample: Sample,
+    ghost in_range: { InRange sample },
 }
 
 impl Sample {

@@ -7,8 +7,8 @@ ghost use Rattle.unit.specs.Steps.{fresh_state, entry_fits, RingValid, push_of, 
 
 mod ranges;
 
-use rules::Sample;
 use rules::refusal::Refusal;
+use rules::{Accepted, Sample};
 use unit_core::{Answer, Core};
 
 // The unit's state: the last two hundred entries (held shears, cut) as a ring, the newest at the core's place and each older one a place on, round;
@@ -68,7 +68,8 @@ impl State {
     {
         let core = self.core;
         let n = core.frames(s);
-        let x = core.shear(s, n);
+        let accepted = Accepted { sample: s };
+        let x = core.shear(accepted, n);
         let entry = windows::entry(x);
         self.fill(n, entry);
         let filled = Core {
@@ -80,7 +81,7 @@ impl State {
         };
         let lit = filled.lamps(s.height, n);
         let spoken = lit.voice(s, n);
-        let end = spoken.pitch(s, n);
+        let end = spoken.pitch(accepted, n);
         self.core = end;
         end.answer(x)
     }

@@ -5,14 +5,13 @@ ghost use Rattle.std.specs.Prelude.{◌≡◌, true, ◌≤◌, nat_abs};
 ghost use Rattle.alerts.specs.Counters.{GuideValid};
 ghost use Rattle.unit_core.specs.Core.{fresh_core, frames_of, shear_of, lamps_of, voice_of, guide_of, pitch_of, answer_of, refusal_by};
 ghost use Rattle.frames.specs.Frames.{frames_fit};
-ghost use Rattle.rules.specs.Needs.{InRange};
 ghost use Rattle.rules.specs.Refusal.{number_of};
 
 pub mod ranges;
 
 use alerts::{lamps, pitch, voice};
 use rules::refusal::Refusal;
-use rules::{Sample, shear};
+use rules::{Accepted, Sample, shear};
 use windows::Sums;
 
 // What the unit keeps from sample to sample, beside the ring's entries. A field may hold any value; refusal 8 has the limits.
@@ -85,14 +84,14 @@ impl Core {
 
     // The held shear of a sample that stands for n frames, from the change of along wind since the last accepted one.
     #[tactic(auto, using(crate::proofs::ShearLaws::change_fits))]
-    pub fn shear(self, s: Sample, n: u16) -> i32
-        requires { (nat_abs self.along ≤ 20000) × InRange s × (n ≡ frames_of self s) × (frames_fit n ≡ true) }
-        ensures { (result ≡ shear_of self s) × (nat_abs result ≤ 50000000) }
+    pub fn shear(self, s: Accepted, n: u16) -> i32
+        requires { (nat_abs self.along ≤ 20000) × (n ≡ frames_of self s.sample) × (frames_fit n ≡ true) }
+        ensures { (result ≡ shear_of self s.sample) × (nat_abs result ≤ 50000000) }
     {
-        let v = s.vertical;
-        let a = s.airspeed;
+        let v = s.sample.vertical;
+        let a = s.sample.airspeed;
         if 0 < self.seen {
-            return shear::held(s.along - self.along, n, v, a);
+            return shear::held(s.sample.along - self.along, n, v, a);
         }
         shear::held(0, n, v, a)
     }
@@ -122,9 +121,9 @@ impl Core {
     }
 
     #[tactic(auto, unfolding(crate::specs::Core::pitch_of, crate::specs::Core::guide_of))]
-    pub fn pitch(mut self, s: Sample, n: u16) -> Core
-        requires { GuideValid (guide_of self) × InRange s × (n ≤ 20) }
-        ensures { result ≡ pitch_of self s n }
+    pub fn pitch(mut self, s: Accepted, n: u16) -> Core
+        requires { GuideValid (guide_of self) × (n ≤ 20) }
+        ensures { result ≡ pitch_of self s.sample n }
     {
         let g = pitch::Guide {
             count: self.guidance,

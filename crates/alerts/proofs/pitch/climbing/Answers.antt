@@ -11,8 +11,8 @@ use Rattle.alerts.proofs.pitch.climbing.Goals as goal
 pub returns-then-s-gt0 : goal.returns-then-s-gt0
 unfolding climbing
 returns-then-s-gt0 c =
-    let climb : SFits w32 c.args.s.climb = search rules in
-    let need = kept w32 (times (kept w32 (exact c.args.s.vs1 c.requires.vs1_le) (lit< tt)) (lit 13)) (lit< tt) in
-    let have = kept w32 (times (kept w32 (exact c.args.s.airspeed c.requires.airspeed_le) (lit< tt)) (lit 10)) (lit< tt) in
+    let climb : SFits w32 c.args.s.sample.climb = search rules in
+    let need = kept w32 (times (kept w32 (exact c.args.s.sample.vs1 c.args.s.in_range.vs1_le) (lit< tt)) (lit 13)) (lit< tt) in
+    let have = kept w32 (times (kept w32 (exact c.args.s.sample.airspeed c.args.s.in_range.airspeed_le) (lit< tt)) (lit 10)) (lit< tt) in
     let t = simp to_z-of_z at c.if-s-gt0.true in
     rw (need.is, have.is, t)

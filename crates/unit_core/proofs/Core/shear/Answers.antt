@@ -29,38 +29,38 @@ pub returns-then-self-gt0 : goal.returns-then-self-gt0
 unfolding shear_of
 returns-then-self-gt0 c =
     let k = c.before.before.before.before.before.before.before.before.before in
-    let r = k.requires.1 in
-    let d = kept w32 (change k.args.s.along k.args.self.along r.along_le k.requires.0) (lit< tt) in
-    let v = kept w32 (exact k.args.s.vertical r.vertical_le) (lit< tt) in
-    let a = kept w32 (exact k.args.s.airspeed r.airspeed_le) (lit< tt) in
+    let r = k.args.s.in_range in
+    let d = kept w32 (change k.args.s.sample.along k.args.self.along r.along_le k.requires.0) (lit< tt) in
+    let v = kept w32 (exact k.args.s.sample.vertical r.vertical_le) (lit< tt) in
+    let a = kept w32 (exact k.args.s.sample.airspeed r.airspeed_le) (lit< tt) in
     let e = to_z-of_z {w = w32} (record { sfits = c.held.type_inv }) in
     let told
-    : c.held.result ≡ held_shear (back (back k.args.s.along -ℤ back k.args.self.along)) k.args.n (back k.args.s.vertical) (back k.args.s.airspeed)
+    : c.held.result ≡ held_shear (back (back k.args.s.sample.along -ℤ back k.args.self.along)) k.args.n (back k.args.s.sample.vertical) (back k.args.s.sample.airspeed)
     = c.held.ensures.0 in
-    (e ∙ told ∙ rw (d.is, v.is, a.is, ← k.requires.2, lt-ltb _ _ c.before.before.before.before.before.if-self-gt0.true), rw e c.held.ensures.1)
+    (e ∙ told ∙ rw (d.is, v.is, a.is, ← k.requires.1, lt-ltb _ _ c.before.before.before.before.before.if-self-gt0.true), rw e c.held.ensures.1)
 
 pub held-requires : goal.held-requires
 held-requires c =
     let k = c.before.before.before.before.before.before.before.before in
-    let r = k.requires.1 in
-    let f = fields k.args.s.vertical k.args.s.airspeed r.vertical_le r.airspeed_ge r.airspeed_le in
-    let n = fit_bounds k.args.n k.requires.3 in
-    (size (kept w32 (change k.args.s.along k.args.self.along r.along_le k.requires.0) (lit< tt)), f.0, f.1, f.2, n.0, n.1)
+    let r = k.args.s.in_range in
+    let f = fields k.args.s.sample.vertical k.args.s.sample.airspeed r.vertical_le r.airspeed_ge r.airspeed_le in
+    let n = fit_bounds k.args.n k.requires.2 in
+    (size (kept w32 (change k.args.s.sample.along k.args.self.along r.along_le k.requires.0) (lit< tt)), f.0, f.1, f.2, n.0, n.1)
 
 pub returns : goal.returns
 unfolding shear_of
 returns c =
     let k = c.before.before.before.before.before in
-    let r = k.requires.1 in
-    let v = kept w32 (exact k.args.s.vertical r.vertical_le) (lit< tt) in
-    let a = kept w32 (exact k.args.s.airspeed r.airspeed_le) (lit< tt) in
+    let r = k.args.s.in_range in
+    let v = kept w32 (exact k.args.s.sample.vertical r.vertical_le) (lit< tt) in
+    let a = kept w32 (exact k.args.s.sample.airspeed r.airspeed_le) (lit< tt) in
     let e = to_z-of_z {w = w32} (record { sfits = c.held-2.type_inv }) in
-    (e ∙ c.held-2.ensures.0 ∙ rw (v.is, a.is, ← k.requires.2, le-ltb _ _ c.before.if-self-gt0.false), rw e c.held-2.ensures.1)
+    (e ∙ c.held-2.ensures.0 ∙ rw (v.is, a.is, ← k.requires.1, le-ltb _ _ c.before.if-self-gt0.false), rw e c.held-2.ensures.1)
 
 pub held-requires-2 : goal.held-requires-2
 held-requires-2 c =
     let k = c.before.before.before.before in
-    let r = k.requires.1 in
-    let f = fields k.args.s.vertical k.args.s.airspeed r.vertical_le r.airspeed_ge r.airspeed_le in
-    let n = fit_bounds k.args.n k.requires.3 in
+    let r = k.args.s.in_range in
+    let f = fields k.args.s.sample.vertical k.args.s.sample.airspeed r.vertical_le r.airspeed_ge r.airspeed_le in
+    let n = fit_bounds k.args.n k.requires.2 in
     (lit≤ tt, f.0, f.1, f.2, n.0, n.1)
