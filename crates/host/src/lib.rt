@@ -27,6 +27,7 @@ use unit_core::Answer;
 
 // The hundredths of a finite float, cut at a million either way: finite is 1; exact is 1 where 100 times its exact value is a whole number; cut is 1
 // where the rounded hundredths are beyond a million either way. Where it is not finite all is 0.
+// kept: flags beside the value, as C is handed this struct; the functions here take and answer what C does.
 #[repr(C)]
 #[derive(Clone, Copy, Default)]
 pub struct ConvertedFloat {

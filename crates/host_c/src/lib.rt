@@ -1,4 +1,5 @@
 // The C functions of the static library: each calls host's function of the same name, under the same clauses.
+// kept: what C takes and is answered, numbers for refusals; twins of host's functions, as a crate that others use exports nothing to C.
 #![tactic(auto)]
 
 ghost use Rattle.std.specs.Prelude.{◌≡◌, length};

@@ -14,6 +14,7 @@ use refusal::Refusal;
 
 // One sample, in the units of 01's table; it stands for one or more of the twenty frames of a second (02, A6). A field holds any value that a caller
 // may send.
+// kept: mode and deselect are numbers, as C hands this struct over and `Sample::check` answers for any value.
 #[repr(C)]
 #[derive(Clone, Copy, Default)]
 pub struct Sample {

@@ -69,6 +69,7 @@ impl<'a> Writer<'a> {
         self.digit(n % 10);
     }
 
+    // kept: a flag, as one byte is written or none.
     #[tactic(auto, using(crate::proofs::WriterLaws::nothing))]
     fn sign(&mut self, negative: bool)
         requires { HasRoom self.old 1 }
@@ -99,6 +100,7 @@ impl<'a> Writer<'a> {
     }
 
     // So many hundredths of a knot.
+    // kept: beside `signed`, as one function over how the size is written would be as long as both.
     pub fn knots(&mut self, x: i32)
         requires { HasRoom self.old (length (knots x)) }
         ensures { Puts self.old (knots x) self.new }

@@ -15,6 +15,7 @@ use rules::{Accepted, Sample, shear};
 use windows::Sums;
 
 // What the unit keeps from sample to sample, beside the ring's entries. A field may hold any value; refusal 8 has the limits.
+// kept: numbers, 0 for none and for off, as C hands this struct over and is handed it.
 #[repr(C)]
 #[derive(Clone, Copy, Debug, Default, PartialEq, Eq)]
 pub struct Core {
@@ -41,6 +42,7 @@ pub struct Core {
 }
 
 // What a sample is answered. `refusal` is 0 where it was accepted; else it is the first number that fits, and the other fields are 0.
+// kept: numbers, as C is handed this struct.
 #[repr(C)]
 #[derive(Clone, Copy, Debug, Default, PartialEq, Eq)]
 pub struct Answer {

@@ -20,6 +20,7 @@ pub struct Line {
     pub exact: bool,
 }
 
+// kept: the alert's number, as C's struct Answer has it and `alert_word` of Text.antt takes any.
 #[tactic(auto, unfolding(crate::specs::Text::alert_word))]
 fn alert_word(out: &mut Writer<'_>, alert: u16)
     requires { HasRoom out.old 5 }
