@@ -6,6 +6,7 @@ ghost use Rattle.alerts.specs.Counters.{GuideValid, started_of, continued_of, gu
 use rules::{Accepted, Sample};
 
 // Guidance: count is 0 while it is off, else one more than the frames in a row that have counted towards its end.
+// kept: (a) GuideValid in requires and not a ghost field, as the definition guide_of makes a Guide of any core's numbers
 #[derive(Clone, Copy, Debug, Default, PartialEq, Eq)]
 pub struct Guide {
     pub count: u16,
@@ -19,13 +20,12 @@ fn cap(s: Sample) -> i32
     s.stall.min(27000)
 }
 
-// 75 for each of n frames.
-#[tactic(auto, unfolding(rules::specs::Rules::towards, rules::specs::Choice::smaller, rules::specs::Choice::larger))]
-fn towards(n: u16, c: i32) -> i32
-    requires { (n ≤ 20) × (nat_abs c ≤ 30000) }
-    ensures { result ≡ towards n c }
+// 75 for each of the sample's frames.
+fn towards(s: Accepted, c: i32) -> i32
+    requires { nat_abs c ≤ 30000 }
+    ensures { result ≡ towards s.frames c }
 {
-    let most = 75 * i32::from(n);
+    let most = 75 * i32::from(s.frames);
     if c < 15000 {
         (c + most).min(15000)
     } else {
@@ -61,31 +61,31 @@ fn started(s: Accepted) -> Guide
 
 impl Guide {
     #[tactic(auto, using(crate::proofs::CounterLaws::counted_le), unfolding(crate::specs::Counters::continued_of, crate::specs::Counters::no_guide, rules::specs::Choice::smaller))]
-    fn continued(self, s: Accepted, n: u16) -> Guide
-        requires { GuideValid self × (n ≤ 20) × (0 < self.count) }
-        ensures { result ≡ continued_of self s.sample n }
+    fn continued(self, s: Accepted) -> Guide
+        requires { GuideValid self × (0 < self.count) }
+        ensures { result ≡ continued_of self s.sample s.frames }
     {
-        let count = counted(s, n, self.count - 1);
+        let count = counted(s, s.frames, self.count - 1);
         if 600 <= count {
             return Guide::default();
         }
         Guide {
             count: count + 1,
-            command: cap(s.sample).min(towards(n, self.command)),
+            command: cap(s.sample).min(towards(s, self.command)),
         }
     }
 
     // "Guidance ends at a sample with deselect, which beats a start"; "an end beats a coming-on".
     #[tactic(auto, using(crate::proofs::CounterLaws::is_one, crate::proofs::CounterLaws::not_one), unfolding(crate::specs::Counters::guide_next, crate::specs::Counters::no_guide))]
-    pub fn next(self, s: Accepted, n: u16, comes: bool) -> Guide
-        requires { GuideValid self × (n ≤ 20) }
-        ensures { result ≡ guide_next self s.sample n comes }
+    pub fn next(self, s: Accepted, comes: bool) -> Guide
+        requires { GuideValid self }
+        ensures { result ≡ guide_next self s.sample s.frames comes }
     {
         if s.sample.deselect == 1 {
             return Guide::default();
         }
         if 0 < self.count {
-            self.continued(s, n)
+            self.continued(s)
         } else if comes {
             started(s)
         } else {

@@ -1,7 +1,7 @@
 // A sample (01, "A sample"), what refuses it and its shear; specs/Rules.antt has the rules over a list of them.
 #![tactic(auto)]
 
-ghost use Rattle.std.specs.Prelude.{true, false, ◌≡◌, OnOk, IfErr};
+ghost use Rattle.std.specs.Prelude.{true, false, ◌≡◌, ◌≤◌, OnOk, IfErr};
 ghost use Rattle.rules.specs.Choice.{within};
 ghost use Rattle.rules.specs.Needs.{InRange};
 ghost use Rattle.rules.specs.Refusal.{number_of};
@@ -32,11 +32,14 @@ pub struct Sample {
     pub frame: u16,
 }
 
-// A sample that no number of 11 to 20 fits, as far as the arithmetic leans on it.
+// A sample that no number of 11 to 21 fits, as far as the arithmetic leans on it, with the frames that it stands for. Only shear leans on
+// these being one at least.
 #[derive(Clone, Copy)]
 pub struct Accepted {
     pub sample: Sample,
+    pub frames: u16,
     ghost in_range: { InRange sample },
+    ghost frames_le: { frames ≤ 20 },
 }
 
 impl Sample {

@@ -68,8 +68,11 @@ impl State {
     {
         let core = self.core;
         let n = core.frames(s);
-        let accepted = Accepted { sample: s };
-        let x = core.shear(accepted, n);
+        let accepted = Accepted {
+            sample: s,
+            frames: n,
+        };
+        let x = core.shear(accepted);
         let entry = windows::entry(x);
         self.fill(n, entry);
         let filled = Core {
@@ -81,7 +84,7 @@ impl State {
         };
         let lit = filled.lamps(s.height, n);
         let spoken = lit.voice(s, n);
-        let end = spoken.pitch(accepted, n);
+        let end = spoken.pitch(accepted);
         self.core = end;
         end.answer(x)
     }

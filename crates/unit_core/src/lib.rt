@@ -1,10 +1,9 @@
 // The core: what the unit keeps beside the ring's entries, and what a sample does to it (01, "A sample" to "Escape pitch").
 #![tactic(auto)]
 
-ghost use Rattle.std.specs.Prelude.{◌≡◌, true, ◌≤◌, nat_abs};
+ghost use Rattle.std.specs.Prelude.{◌≡◌, ◌≤◌, nat_abs};
 ghost use Rattle.alerts.specs.Counters.{GuideValid};
 ghost use Rattle.unit_core.specs.Core.{fresh_core, frames_of, shear_of, lamps_of, voice_of, guide_of, pitch_of, answer_of, refusal_by};
-ghost use Rattle.frames.specs.Frames.{frames_fit};
 ghost use Rattle.rules.specs.Refusal.{number_of};
 
 pub mod ranges;
@@ -84,12 +83,13 @@ impl Core {
         s.check_for(self.frames(s))
     }
 
-    // The held shear of a sample that stands for n frames, from the change of along wind since the last accepted one.
+    // The held shear of a sample, from the change of along wind since the last accepted one.
     #[tactic(auto, using(crate::proofs::ShearLaws::change_fits))]
-    pub fn shear(self, s: Accepted, n: u16) -> i32
-        requires { (nat_abs self.along ≤ 20000) × (n ≡ frames_of self s.sample) × (frames_fit n ≡ true) }
+    pub fn shear(self, s: Accepted) -> i32
+        requires { (nat_abs self.along ≤ 20000) × (s.frames ≡ frames_of self s.sample) × (1 ≤ s.frames) }
         ensures { (result ≡ shear_of self s.sample) × (nat_abs result ≤ 50000000) }
     {
+        let n = s.frames;
         let v = s.sample.vertical;
         let a = s.sample.airspeed;
         if 0 < self.seen {
@@ -123,15 +123,15 @@ impl Core {
     }
 
     #[tactic(auto, unfolding(crate::specs::Core::pitch_of, crate::specs::Core::guide_of))]
-    pub fn pitch(mut self, s: Accepted, n: u16) -> Core
-        requires { GuideValid (guide_of self) × (n ≤ 20) }
-        ensures { result ≡ pitch_of self s.sample n }
+    pub fn pitch(mut self, s: Accepted) -> Core
+        requires { GuideValid (guide_of self) }
+        ensures { result ≡ pitch_of self s.sample s.frames }
     {
         let g = pitch::Guide {
             count: self.guidance,
             command: self.command,
         };
-        let next = g.next(s, n, self.red == 1);
+        let next = g.next(s, self.red == 1);
         self.guidance = next.count;
         self.command = next.command;
         self

@@ -26,13 +26,15 @@ returns c =
     (chain before c.args.s c.frames-n.ensures c.shear-x.ensures.0 entry filled lit c.voice-spoken.ensures c.pitch-end.ensures a)
 
 pub invariant_of-accepted : goal.invariant_of-accepted
-invariant_of-accepted c = record { in_range = (leans c.args.self.now c.args.s c.requires).1 }
+invariant_of-accepted c =
+    let a = leans c.args.self.now c.args.s c.requires in
+    record { in_range = a.1; frames_le = rw c.frames-n.ensures (fit_bounds _ a.2).1 }
 
 pub shear-x-requires : goal.shear-x-requires
 shear-x-requires c =
     let a = leans c.args.self.now c.args.s c.requires in
     let e = c.frames-n.ensures in
-    (a.0.along_le, e, rw e a.2)
+    (a.0.along_le, e, rw e (fit_bounds _ a.2).0)
 
 pub fill-requires : goal.fill-requires
 fill-requires c =
@@ -49,4 +51,4 @@ pitch-end-requires c =
     let command : SFits w32 before.core.command = search rules in
     let lit = simp to_z-of_z at c.lamps-lit.ensures in
     let a = leans before c.args.s c.requires in
-    (guide_kept before c.args.s _ _ c.fill.new.self.core.sums c.fill.new.self.core.place lit c.voice-spoken.ensures a.0, rw c.frames-n.ensures (fit_bounds _ a.2).1)
+    guide_kept before c.args.s _ _ c.fill.new.self.core.sums c.fill.new.self.core.place lit c.voice-spoken.ensures a.0

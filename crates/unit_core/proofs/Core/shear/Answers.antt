@@ -7,7 +7,6 @@ use lib.IntN.{ℤ, pos, nat_abs, ◌-ℤ◌}
 use lib.Signed.{◌≤ℤ◌}
 use mir.Syntax.{w32}
 use mir.Facts.{to_z-of_z}
-use Rattle.frames.proofs.FrameLaws.{fit_bounds}
 use Rattle.rounding.proofs.Fits.{Holds, exact, kept}
 use Rattle.rules.specs.Rules.{held_shear}
 use Rattle.unit_core.specs.Core.{shear_of}
@@ -35,7 +34,7 @@ returns-then-self-gt0 c =
     let a = kept w32 (exact k.args.s.sample.airspeed r.airspeed_le) (lit< tt) in
     let e = to_z-of_z {w = w32} (record { sfits = c.held.type_inv }) in
     let told
-    : c.held.result ≡ held_shear (back (back k.args.s.sample.along -ℤ back k.args.self.along)) k.args.n (back k.args.s.sample.vertical) (back k.args.s.sample.airspeed)
+    : c.held.result ≡ held_shear (back (back k.args.s.sample.along -ℤ back k.args.self.along)) k.args.s.frames (back k.args.s.sample.vertical) (back k.args.s.sample.airspeed)
     = c.held.ensures.0 in
     (e ∙ told ∙ rw (d.is, v.is, a.is, ← k.requires.1, lt-ltb _ _ c.before.before.before.before.before.if-self-gt0.true), rw e c.held.ensures.1)
 
@@ -44,8 +43,7 @@ held-requires c =
     let k = c.before.before.before.before.before.before.before.before in
     let r = k.args.s.in_range in
     let f = fields k.args.s.sample.vertical k.args.s.sample.airspeed r.vertical_le r.airspeed_ge r.airspeed_le in
-    let n = fit_bounds k.args.n k.requires.2 in
-    (size (kept w32 (change k.args.s.sample.along k.args.self.along r.along_le k.requires.0) (lit< tt)), f.0, f.1, f.2, n.0, n.1)
+    (size (kept w32 (change k.args.s.sample.along k.args.self.along r.along_le k.requires.0) (lit< tt)), f.0, f.1, f.2, k.requires.2, k.args.s.frames_le)
 
 pub returns : goal.returns
 unfolding shear_of
@@ -62,5 +60,4 @@ held-requires-2 c =
     let k = c.before.before.before.before in
     let r = k.args.s.in_range in
     let f = fields k.args.s.sample.vertical k.args.s.sample.airspeed r.vertical_le r.airspeed_ge r.airspeed_le in
-    let n = fit_bounds k.args.n k.requires.2 in
-    (lit≤ tt, f.0, f.1, f.2, n.0, n.1)
+    (lit≤ tt, f.0, f.1, f.2, k.requires.2, k.args.s.frames_le)

@@ -19,5 +19,5 @@ returns c =
     let below : c.counted-count.result < 600 = omega (arith, c) in
     let d = simp to_z-of_z at c.towards.ensures in
     let e = simp to_z-of_z at c.min.ensures.value in
-    goes_on c.args.self c.args.s.sample c.args.n c.counted-count.ensures below
+    goes_on c.args.self c.args.s.sample c.args.s.frames c.counted-count.ensures below
     (guide_is refl (to_z-of_z {w = w32} (record { sfits = c.min.type_inv }) ∙ e ∙ rw (d, c.cap.ensures)))
