@@ -3,7 +3,7 @@ ghost use Rattle.std.specs.Prelude.{◌≡◌};
 ghost use Rattle.alerts.specs.Counters.{lamp_next, unless_lit, alert_number, alert_of};
 
 // A lamp's counter after a sample of n frames at which its condition holds or not. It stops at 60, from where only the condition keeps it lit.
-// kept: not one function with voice::next, as past its end the condition decides here, and the voice stays over
+// kept: beside voice::next, as past 60 a lamp follows its condition and past 73 the voice stays over (`lamp_next`, `voice_next`).
 #[tactic(auto, unfolding(crate::specs::Counters::lamp_next))]
 pub fn next(count: u16, n: u16, on: bool) -> u16
     ensures { result ≡ lamp_next count n on }

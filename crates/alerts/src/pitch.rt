@@ -6,7 +6,7 @@ ghost use Rattle.alerts.specs.Counters.{GuideValid, started_of, continued_of, gu
 use rules::{Accepted, Sample};
 
 // Guidance: count is 0 while it is off, else one more than the frames in a row that have counted towards its end.
-// kept: (a) GuideValid in requires and not a ghost field, as the definition guide_of makes a Guide of any core's numbers
+// kept: GuideValid in requires and not a ghost field, as the definition guide_of makes a Guide of any core's numbers
 #[derive(Clone, Copy, Debug, Default, PartialEq, Eq)]
 pub struct Guide {
     pub count: u16,

@@ -61,7 +61,7 @@ fn fail(rt: HostRuntime, what: &str, error: Error) {
 }
 
 // Writes all of it, or says why a write failed. One that a signal interrupts or that takes nothing has failed.
-// kept: std's write_all tries an interrupted write again, where this program has always said that it failed.
+// kept: std's write_all tries an interrupted write again, where this program says that it failed (DECISIONS 37).
 fn write_whole(mut stdout: Stdout, listing: &[u8]) -> Result<(), Error> {
     let mut rest = listing;
     while !rest.is_empty() {
@@ -87,7 +87,7 @@ fn main(rt: HostRuntime) {
         let _ = eprintln!(rt; "usage: listing <FILE");
         return;
     }
-    // kept: buffers of fixed size, this and `out`, as nothing is taken from the heap
+    // kept: buffers of fixed size, this, `out` and `text`, as nothing is taken from the heap (DECISIONS 121)
     let mut file = [0u8; MOST_READ];
     match read_input(rt.stdin(), &mut file) {
         Ok(n) => print_listing(rt, &file[..n]),

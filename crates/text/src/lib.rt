@@ -69,7 +69,7 @@ impl<'a> Writer<'a> {
         self.digit(n % 10);
     }
 
-    // kept: a flag, as one byte is written or none.
+    // kept: a flag, as one byte is written or none: `signed_by` of Text.antt goes by the sign alone.
     #[tactic(auto, using(crate::proofs::WriterLaws::nothing))]
     fn sign(&mut self, negative: bool)
         requires { HasRoom self.old 1 }

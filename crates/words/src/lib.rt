@@ -20,7 +20,7 @@ pub struct Line {
     pub exact: bool,
 }
 
-// kept: the alert's number, as C's struct Answer has it and `alert_word` of Text.antt takes any.
+// kept: the alert's number, as Answer has it for C and this crate's `Line` took any: an enum would ask more.
 #[tactic(auto, unfolding(crate::specs::Text::alert_word))]
 fn alert_word(out: &mut Writer<'_>, alert: u16)
     requires { HasRoom out.old 5 }
