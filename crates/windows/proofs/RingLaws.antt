@@ -1,4 +1,4 @@
--- Laws of the ring as it is read from its place on, newest first: where an entry stands, and a window's sum an entry at a time.
+-- Laws of the ring as it is read from its place on, newest first: where an entry stands, and how many there are.
 use mathlib.Core.Bool.{cond}
 use mathlib.Core.List.{List, ◌++◌}
 use mathlib.Core.Path.{◌≡◌, ap, ◌∙◌}
@@ -7,12 +7,10 @@ use native.Mathlib.Omega.{arith}
 use native.Mathlib.Decide.{dec_lt}
 use borrow.Author.Tests.{lt-ltb, le-ltb}
 use lib.Dec.{ltb}
-use lib.IntN.{ℤ, pos, ◌+ℤ◌}
+use lib.IntN.{ℤ, pos}
 use lib.ListN.{length, take, drop, get_or, length-append, length-drop, get_or-append}
 use lib.Seq.{get_or-take, get_or-drop, get_or-append-add, length-take-le}
-use Rattle.rounding.specs.Fraction.{sum_ℤ}
 use Rattle.windows.specs.Ring.{read_from, on_of}
-use Rattle.windows.proofs.WindowLaws.{sum_more}
 
 -- the entry that is k-th when read from the place on stands k places on
 pub read_at : (held : List ℤ) (p k : ℕ) → length held ≡ 200 → p < 200 → k < 200
@@ -35,9 +33,3 @@ read_at held p k long hp hk = go (dec_lt (p + k) 200)
 pub read_length : (held : List ℤ) (p : ℕ) → length held ≡ 200 → p < 200 → length (read_from p held) ≡ 200
 unfolding read_from
 read_length held p long h = rw (length-append, length-drop, length-take-le p held (omega arith)) (omega arith)
-
--- one entry more of a window that is summed anew
-pub read_sum : (held : List ℤ) (p i : ℕ) → length held ≡ 200 → p < 200 → i < 200
-    → sum_ℤ (take (i + 1) (read_from p held)) ≡ sum_ℤ (take i (read_from p held)) +ℤ get_or held (on_of p i) (pos 0)
-read_sum held p i long h k =
-    rw (sum_more (read_from p held) i (omega (arith, read_length held p long h)), read_at held p i long h k)

@@ -1,7 +1,7 @@
 // The windows: a ring of the last two hundred entries, and a running sum for each window (01, "The six windows"; 02, A1 and A9).
 #![tactic(auto)]
 
-ghost use Rattle.std.specs.Prelude.{◌≡◌, ◌*◌, ◌≤◌, ◌<◌, nat_abs, length, set, take};
+ghost use Rattle.std.specs.Prelude.{◌≡◌, ◌*◌, ◌≤◌, ◌<◌, pos, nat_abs, length, get_or, set, take};
 ghost use Rattle.rounding.specs.Cut.{cut};
 ghost use Rattle.rounding.specs.Fraction.{sum_ℤ};
 ghost use Rattle.rules.specs.Rules.{entry_limit, row};
@@ -36,74 +36,99 @@ pub fn back(p: usize) -> usize
     if p == 0 { 199 } else { p - 1 }
 }
 
-// n places on, round.
-#[tactic(auto, unfolding(crate::specs::Ring::on_of))]
-fn on(p: usize, n: usize) -> usize
-    requires { (p < 200) × (n < 200) }
-    ensures { (result ≡ on_of p n) × (result < 200) }
-{
-    if p + n < 200 { p + n } else { p + n - 200 }
+// The ring of the last two hundred entries: the newest stands at its place, and each older one a place on, round.
+#[derive(Clone, Copy)]
+pub struct Ring<'a> {
+    pub held: &'a [i32; 200],
+    pub place: usize,
+    ghost whole: { length held.now ≡ 200 },
+    ghost on_ring: { place < 200 },
 }
 
-// The sum of the window of n as x enters: it gains x, and loses the entry that was its oldest.
-fn moved(sum: i64, x: i32, held: &[i32; 200], p: usize, n: usize) -> i64
-    requires { (nat_abs sum ≤ 10000000000) × (p < 200) × (0 < n) × (n ≤ 200) × (length held.now ≡ 200) }
-    ensures { result ≡ moved_of n (read_from p held.now) x sum }
-{
-    let j = on(p, n - 1);
-    sum + i64::from(x) - i64::from(held[j])
+impl<'a> Ring<'a> {
+    // Where the entry stands that came in n before the newest.
+    #[inline(always)]
+    #[tactic(auto, unfolding(crate::specs::Ring::on_of))]
+    fn on(self, n: usize) -> usize
+        requires { n < 200 }
+        ensures { (result ≡ on_of self.entry.place n) × (result < 200) }
+    {
+        let i = self.place + n;
+        if i < 200 { i } else { i - 200 }
+    }
+
+    // That entry.
+    #[inline(always)]
+    fn at(self, n: usize) -> i32
+        requires { n < 200 }
+        ensures { result ≡ get_or (read_from self.entry.place self.entry.held.now) n (pos 0) }
+    {
+        self.held[self.on(n)]
+    }
+
+    // The sum of the window of n as x enters: it gains x, and loses the entry that was its oldest.
+    #[inline(always)]
+    #[tactic(auto, unfolding(crate::specs::Ring::moved_of))]
+    fn moved(self, sum: i64, x: i32, n: usize) -> i64
+        requires { (nat_abs sum ≤ 10000000000) × (0 < n) × (n ≤ 200) }
+        ensures { result ≡ moved_of n (read_from self.entry.place self.entry.held.now) x sum }
+    {
+        sum + i64::from(x) - i64::from(self.at(n - 1))
+    }
+
+    // The sum of the newest n, from that of the newest m; an entry is at most 2,147,483,648 in size.
+    fn sum_on(self, m: usize, sum: i64, n: usize) -> i64
+        requires { (m ≤ n) × (n ≤ 200) × (sum ≡ sum_ℤ (take m (read_from self.place self.held.now))) × (nat_abs sum ≤ m * 2147483648) }
+        ensures { (result ≡ sum_ℤ (take n (read_from self.entry.place self.entry.held.now))) × (nat_abs result ≤ n * 2147483648) }
+    {
+        let mut sum = sum;
+        for i in m..n {
+            sum += i64::from(self.at(i));
+        }
+        sum
+    }
+
+    // The six sums anew.
+    pub fn sums(self) -> Sums
+        ensures { result ≡ sums_of (read_from self.entry.place self.entry.held.now) }
+    {
+        let s100 = self.sum_on(0, 0, 100);
+        let s120 = self.sum_on(100, s100, 120);
+        let s140 = self.sum_on(120, s120, 140);
+        let s160 = self.sum_on(140, s140, 160);
+        let s180 = self.sum_on(160, s160, 180);
+        Sums {
+            s200: self.sum_on(180, s180, 200),
+            s180,
+            s160,
+            s140,
+            s120,
+            s100,
+        }
+    }
 }
 
 // x is stored one place before p, round; returned is what the six sums become.
+#[tactic(auto, unfolding(crate::specs::Ring::moved_sums))]
 pub fn enter(sums: Sums, p: usize, held: &mut [i32; 200], x: i32) -> Sums
-    requires { SumsWithin sums × (p < 200) × (length held.old ≡ 200) }
+    requires { SumsWithin sums × (p < 200) }
     ensures { (result ≡ moved_sums (read_from p held.old) x sums) × (held.new ≡ set held.old (back_of p) x) }
 {
+    let ring = Ring {
+        held: &*held,
+        place: p,
+    };
     // kept: a table or a loop over the six would still list the fields of Sums, which the C interface fixes
     let next = Sums {
-        s200: moved(sums.s200, x, &*held, p, 200),
-        s180: moved(sums.s180, x, &*held, p, 180),
-        s160: moved(sums.s160, x, &*held, p, 160),
-        s140: moved(sums.s140, x, &*held, p, 140),
-        s120: moved(sums.s120, x, &*held, p, 120),
-        s100: moved(sums.s100, x, &*held, p, 100),
+        s200: ring.moved(sums.s200, x, 200),
+        s180: ring.moved(sums.s180, x, 180),
+        s160: ring.moved(sums.s160, x, 160),
+        s140: ring.moved(sums.s140, x, 140),
+        s120: ring.moved(sums.s120, x, 120),
+        s100: ring.moved(sums.s100, x, 100),
     };
-    let q = back(p);
-    held[q] = x;
+    held[back(p)] = x;
     next
-}
-
-// The sum of the newest n, from that of the newest m; an entry is at most 2,147,483,648 in size.
-fn sum_on(held: &[i32; 200], p: usize, m: usize, sum: i64, n: usize) -> i64
-    requires { (p < 200) × (m ≤ n) × (n ≤ 200) × (length held.now ≡ 200) × (sum ≡ sum_ℤ (take m (read_from p held.now))) × (nat_abs sum ≤ m * 2147483648) }
-    ensures { (result ≡ sum_ℤ (take n (read_from p held.now))) × (nat_abs result ≤ n * 2147483648) }
-{
-    let mut sum = sum;
-    for i in m..n {
-        let j = on(p, i);
-        sum += i64::from(held[j]);
-    }
-    sum
-}
-
-// The six sums anew from the ring.
-pub fn all_sums(held: &[i32; 200], p: usize) -> Sums
-    requires { (p < 200) × (length held.now ≡ 200) }
-    ensures { result ≡ sums_of (read_from p held.now) }
-{
-    let s100 = sum_on(held, p, 0, 0, 100);
-    let s120 = sum_on(held, p, 100, s100, 120);
-    let s140 = sum_on(held, p, 120, s120, 140);
-    let s160 = sum_on(held, p, 140, s140, 160);
-    let s180 = sum_on(held, p, 160, s160, 180);
-    Sums {
-        s200: sum_on(held, p, 180, s180, 200),
-        s180: s180,
-        s160: s160,
-        s140: s140,
-        s120: s120,
-        s100: s100,
-    }
 }
 
 // Whether a window's sum, or its opposite, reaches samples × value.

@@ -6,7 +6,7 @@ use Rattle.unit.proofs.ValidLaws.{ring_holds}
 use Rattle.unit.proofs.State.push.Goals as goal
 
 pub enter-self-requires : goal.enter-self-requires
-enter-self-requires c = let a = ring_holds _ c.requires in (a.sums_le, a.on_ring, a.long)
+enter-self-requires c = let a = ring_holds _ c.requires in (a.sums_le, a.on_ring)
 
 pub back-requires : goal.back-requires
 back-requires c = (ring_holds _ c.requires).on_ring

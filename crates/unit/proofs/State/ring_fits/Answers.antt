@@ -1,4 +1,4 @@
--- `unit::State::ring_fits` meets its contract: the ring is whole, the test of the place is the branch's, and sums are equal where each is the other's.
+-- `unit::State::ring_fits` meets its contract: the ring is whole, the branch leaves a place on it, and sums are equal where each is the other's.
 use mathlib.Core.Bool.{Bool, ◌&&◌}
 use mathlib.Core.Path.{◌≡◌}
 use native.Mathlib.Omega.{arith}
@@ -17,7 +17,7 @@ equal : (a b : Sums) {r : Bool}
 unfolding same_sums
 equal a b e = grind (arith, int_eq_same)
 
-pub returns-then-p-lt200 : goal.returns-then-p-lt200
-returns-then-p-lt200 c =
+pub returns : goal.returns
+returns c =
     let long : length c.args.self.now.held ≡ 200 = search rules in
-    on_ring c.args.self.now.held c.args.self.now.core long c.if-p-lt200.true c.all_sums.ensures (equal _ c.all_sums.result c.eq.ensures)
+    on_ring c.args.self.now.held c.args.self.now.core long c.if-place-ge200.false c.sums.ensures (equal _ c.sums.result c.eq.ensures)
