@@ -132,6 +132,7 @@ pub fn enter(sums: Sums, p: usize, held: &mut [i32; 200], x: i32) -> Sums
 }
 
 // Whether a window's sum, or its opposite, reaches samples × value.
+// kept: a flag here and in `met`, as `reached` and `met_of` of Ring.antt are asked upward or downward.
 fn reaches(sum: i64, samples: u32, value: u32, up: bool) -> bool
     requires { (samples ≤ 200) × (value ≤ 100000) }
     ensures { result ≡ reached up (row samples value) sum }
