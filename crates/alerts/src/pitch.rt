@@ -6,6 +6,7 @@ ghost use Rattle.alerts.specs.Counters.{GuideValid, started_of, continued_of, gu
 use rules::{Accepted, Sample};
 
 // Guidance: count is 0 while it is off, else one more than the frames in a row that have counted towards its end.
+// kept: 0 for off, as Core has it for C.
 // kept: GuideValid in requires and not a ghost field, as the definition guide_of makes a Guide of any core's numbers
 #[derive(Clone, Copy, Debug, Default, PartialEq, Eq)]
 pub struct Guide {
@@ -95,6 +96,7 @@ impl Guide {
 }
 
 // 1 where the command is shown.
+// kept: a number, as Answer has it for C.
 #[tactic(auto, unfolding(crate::specs::Counters::shown_of))]
 pub fn shown(count: u16) -> u16
     ensures { result ≡ shown_of count }

@@ -4,6 +4,7 @@ ghost use Rattle.rules.specs.Rules.{cycle};
 ghost use Rattle.alerts.specs.Counters.{changed_of, kept_of, voice_next};
 
 // Whether the mode differs from the last accepted sample's. "The first sample is no mode change."
+// kept: `seen` beside the mode, as Core has them for C.
 #[tactic(auto, using(crate::proofs::CounterLaws::code_same), unfolding(crate::specs::Counters::changed_of))]
 pub fn changed(seen: u16, last: i32, mode: i32) -> bool
     ensures { result ≡ changed_of seen last mode }

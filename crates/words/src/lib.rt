@@ -107,6 +107,7 @@ pub fn total(out: &mut Writer<'_>, red: u32, amber: u32)
     two_numbers(out, b"red ", red, b" amber ", amber);
 }
 
+// kept: the refusal's number, which is what is printed, as any was taken.
 #[tactic(auto, unfolding(crate::specs::Text::refused_text))]
 pub fn refused(out: &mut Writer<'_>, n: u16, p: u32)
     requires { HasRoom out.old 33 }
