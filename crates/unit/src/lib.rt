@@ -50,6 +50,7 @@ impl State {
     }
 
     // The same entry n times.
+    #[inline(always)]
     fn fill(&mut self, n: u16, entry: i32)
         requires { RingValid self.old × (entry_fits entry ≡ true) }
         ensures { self.new ≡ push_times n self.old entry }
