@@ -109,6 +109,7 @@ impl<'a> Ring<'a> {
 }
 
 // x is stored one place before p, round; returned is what the six sums become.
+// kept: the entries and the place side by side, as a Ring is read only and this writes; six lines, as C fixes the fields of Sums.
 #[tactic(auto, unfolding(crate::specs::Ring::moved_sums))]
 pub fn enter(sums: Sums, p: usize, held: &mut [i32; 200], x: i32) -> Sums
     requires { SumsWithin sums × (p < 200) }
@@ -118,7 +119,6 @@ pub fn enter(sums: Sums, p: usize, held: &mut [i32; 200], x: i32) -> Sums
         held: &*held,
         place: p,
     };
-    // kept: a table or a loop over the six would still list the fields of Sums, which the C interface fixes
     let next = Sums {
         s200: ring.moved(sums.s200, x, 200),
         s180: ring.moved(sums.s180, x, 180),
