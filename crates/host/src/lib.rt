@@ -61,6 +61,7 @@ pub fn windshear_offer_lent(state: &mut State, sample: Sample) -> Answer
 }
 
 // The hundredths that the float of a pattern becomes, whether it was exact, and whether they were cut.
+// kept: a match, as C's struct is made of it here alone.
 #[tactic(auto, unfolding(crate::specs::Exported::converted_numbers))]
 pub fn windshear_hundredths(bits: u32) -> ConvertedFloat
     ensures { result ≡ converted_numbers (converted_of (Ieee.of_bits binary32 bits)) }
