@@ -61,6 +61,7 @@ impl State {
     }
 
     // An accepted sample: nothing is tested, and no copy of the ring is made. "Outside the band the windows still fill", once for each frame.
+    // kept: that no number fits is asked of two values, the state and the sample; a type of one can't say it.
     // Inlined, and the core read before the ring is written: a call, or a core read after it, makes a run a tenth slower.
     #[inline(always)]
     pub fn step(&mut self, s: Sample) -> Answer
