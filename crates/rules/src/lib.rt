@@ -7,6 +7,7 @@ ghost use Rattle.rules.specs.Needs.{InRange};
 ghost use Rattle.rules.specs.Refusal.{number_of};
 ghost use Rattle.rules.specs.Rules.{refusal, then_frames};
 
+pub mod ranges;
 pub mod refusal;
 pub mod shear;
 
