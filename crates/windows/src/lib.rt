@@ -20,11 +20,11 @@ pub struct Sums {
 }
 
 // What a held shear enters into the windows: itself, cut to between -34,500 and 34,500 (02, A1).
-#[tactic(auto, unfolding(rounding::specs::Cut::cut))]
+#[tactic(auto, using(rounding::proofs::CutLaws::cut_le), unfolding(rounding::specs::Cut::cut))]
 pub fn entry(shear: i32) -> i32
     ensures { result ≡ cut entry_limit shear }
 {
-    shear.clamp(-34500, 34500)
+    rounding::cut(i64::from(shear), 34500) as i32
 }
 
 // One place back, round: where the next entry goes.
