@@ -236,3 +236,7 @@ module _ (b : ℕ) where
   pub of_large : 149 < e → ltb e 255 ≡ exact_float (of_bits binary32 b)
   unfolding of_bits
   of_large = above e refl
+
+-- a divisor that is a power of two, none of it shifted out
+pub divisor : (k : ℕ) → k < 32 → 0 < 1 * 2 ^ k % 4294967296
+divisor k h = rw (shl_exact {a = 1} 1 k 32 (lit< tt) (omega arith), one-mul) (pow_pos k)

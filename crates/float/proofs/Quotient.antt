@@ -4,14 +4,20 @@ use mathlib.Core.Bool.{Bool, true, false}
 use Prim.Native.Nat.{ℕ, suc, ◌*◌, ◌^◌, ◌≤◌}
 use native.Mathlib.Nat.{le_trans}
 use native.Mathlib.Omega.{arith}
-use lib.Dec.{lit<, lit≤}
+use lib.Dec.{T, le→leb, lt→ltb, lit<, lit≤}
 use lib.IntN.{ℤ, pos, negsuc, nat_abs}
-use lib.Ieee.{Float, nan, inf, fin, binary32, up, down, div, of_bits, of_int, round}
+use lib.Ieee.{Float, nan, inf, fin, binary32, up, down, div, of_bits, of_int, in_float, round}
 use lib.Ieee.Back.{round_whole}
 use lib.Ieee.Exact.{HasValue}
 use lib.Ieee.Fits.{down_pos}
 use lib.Ieee.Scale.{round_same}
 use Rattle.float.specs.Float.{nearest_float, nearest_limit}
+
+-- a whole number that binary32 has, as every one up to 2 ^ 24
+pub in_float_lem : (h : ℤ) → nat_abs h ≤ 2 ^ 24 → T (in_float binary32 h)
+unfolding in_float
+in_float_lem (pos n) k = le→leb n 16777216 k
+in_float_lem (negsuc n) k = lt→ltb n 16777216 k
 
 -- 100 is 25 × 2 ^ 2
 abbrev pub hundred : Float
