@@ -45,15 +45,14 @@ fn whole_listing(file: &[u8], out: &mut [u8; ROOM]) -> usize
     catalog::listing(file, out)
 }
 
-// Says what failed in a line on standard error: what, and the system's words for why, without the number that std puts after them.
+// Says what failed in a line on standard error: what, and the system's words for why, without the number that std puts after them. Where there is no
+// memory for the line the number stands there too.
 fn fail(rt: HostRuntime, what: &str, error: Error) {
-    // std's text of an error has at most 256 bytes and the number
-    let mut text = [0u8; 512];
-    let mut rest = &mut text[..];
-    let _ = write!(rest, "{error}");
-    let left = rest.len();
-    let len = text.len().saturating_sub(left);
-    let words = str::from_utf8(&text[..len]).unwrap_or("");
+    let Ok(text) = format!(in rt.alloc(); "{error}") else {
+        let _ = eprintln!(rt; "{what}: {error}");
+        return;
+    };
+    let words = text.as_str();
     let why = words
         .split_once(" (os error ")
         .map_or(words, |(why, _)| why);
