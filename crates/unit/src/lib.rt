@@ -39,6 +39,7 @@ pub struct Stepped {
 }
 
 // An entry that comes into the ring.
+// kept: here and below the ring is lent beside its core, as a run and a listing hold the two: 01, "The form for each place".
 fn pushed(mut core: Core, held: &mut [i32; 200], entry: i32) -> Core
     requires { RingValid (beside held.old core) }
     ensures { beside held.new result ≡ push_of (beside held.old core) entry }
@@ -115,6 +116,7 @@ impl State {
     }
 
     // The windows filled by what the sample enters.
+    // kept: this and the three after it take self and hand the state back, so alike: 01, "The form for each place".
     fn windows(mut self, s: Sample, n: u16, entry: i32) -> State
         requires { RingValid self × (entry_fits entry ≡ true) }
         ensures { result ≡ windows_of self s n entry }
