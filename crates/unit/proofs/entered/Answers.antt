@@ -8,9 +8,6 @@ use Rattle.unit.specs.Steps.{beside}
 use Rattle.unit.proofs.StepLaws.{entered_is}
 use Rattle.unit.proofs.entered.Goals as goal
 
-pub pushed_times-filled-requires : goal.pushed_times-filled-requires
-pushed_times-filled-requires c = (c.requires.0, rw (to_z-of_z c.ranges.entry) c.requires.1)
-
 pub returns : goal.returns
 unfolding core_with
 returns c =
