@@ -1,7 +1,14 @@
--- `unit::State::offer` meets its contract: a refusal is answered by its number, which is not 0, and zeros.
+-- `unit::State::offer` meets its contract: what no number fits is accepted; a refusal is answered by its number, which is not 0, and zeros.
+use mathlib.Core.Path.{sym}
 use Rattle.unit_core.specs.Core.{refused_of}
-use Rattle.unit.proofs.StepLaws.{refused}
+use Rattle.unit.proofs.StepLaws.{leans, promised, refused}
 use Rattle.unit.proofs.State.offer.Goals as goal
+
+pub accept-requires : goal.accept-requires
+accept-requires c = leans _ _ (sym c.in-Ok.ensures)
+
+pub returns-in-Ok : goal.returns-in-Ok
+returns-in-Ok c = promised c.args.self c.args.s (sym c.in-Ok.ensures) c.accept.ensures
 
 pub returns-in-Err : goal.returns-in-Err
 unfolding refused_of

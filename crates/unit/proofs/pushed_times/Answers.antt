@@ -1,13 +1,13 @@
--- `unit::State::fill` meets its contract: after so many turns the entry has come in so often.
+-- `unit::pushed_times` meets its contract: after so many turns the entry has come in so often.
 use mathlib.Core.Path.{refl, sym, ap, ◌∙◌, subst}
 use native.Mathlib.Numerals.{add-one}
 use mir.Syntax.{w32}
 use mir.Val.{to_z, of_z}
 use mir.Facts.{to_z-of_z}
-use Rattle.unit.specs.Steps.{push_of, push_times, RingValid}
+use Rattle.unit.specs.Steps.{beside, push_of, push_times, RingValid}
 use Rattle.unit.specs.declared.State.{State}
 use Rattle.unit.proofs.Holding.{push_valid}
-use Rattle.unit.proofs.State.fill.Goals as goal
+use Rattle.unit.proofs.pushed_times.Goals as goal
 
 pub loop-init : goal.loop-init
 unfolding push_times
@@ -17,9 +17,10 @@ pub loop-preserved : goal.loop-preserved
 unfolding push_times
 loop-preserved c =
     let i = c.loop.invariant in
-    let e = c.push.ensures in
+    let x = to_z w32 (of_z w32 c.args.entry) in
+    let e = c.pushed-core.ensures in
     record {
       fits = i.fits;
-      ring = subst RingValid (sym e) (push_valid c.loop.self (to_z w32 (of_z w32 c.args.entry)) i.fits i.ring);
-      times = e ∙ ap (λ (t : State). push_of t (to_z w32 (of_z w32 c.args.entry))) i.times ∙ rw (add-one c.loop.counter);
+      ring = subst RingValid (sym e) (push_valid (beside c.loop.held c.loop.core) x i.fits i.ring);
+      times = e ∙ ap (λ (t : State). push_of t x) i.times ∙ rw (add-one c.loop.counter);
     }
