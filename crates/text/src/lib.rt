@@ -95,8 +95,10 @@ impl<'a> Writer<'a> {
     {
         self.number(n / 100);
         self.byte(b'.');
-        self.digit(n / 10 % 10);
-        self.digit(n % 10);
+        let tenth = n / 10 % 10;
+        let hundredth = n % 10;
+        self.digit(tenth);
+        self.digit(hundredth);
     }
 
     // So many hundredths of a knot.
@@ -105,7 +107,8 @@ impl<'a> Writer<'a> {
         requires { HasRoom self.old (length (knots x)) }
         ensures { Puts self.old (knots x) self.new }
     {
-        self.sign(x < 0);
+        let negative = x < 0;
+        self.sign(negative);
         self.hundredths(x.unsigned_abs());
     }
 }
