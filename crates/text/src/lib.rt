@@ -23,6 +23,15 @@ impl<'a> Writer<'a> {
         Writer { out, at: 0 }
     }
 
+    // The next text goes to the place `at`.
+    pub fn with_position(out: &'a mut [u8], at: usize) -> Self
+        ensures same_buffer { result.out.ghost_name ≡ out.entry.ghost_name }
+        ensures bytes { result.out.now ≡ out.old }
+        ensures start { result.at ≡ at }
+    {
+        Writer { out, at }
+    }
+
     // The place after what is written.
     pub fn position(&self) -> usize
         ensures { result ≡ self.now.at }
