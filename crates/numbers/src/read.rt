@@ -66,13 +66,12 @@ fn signed(s: &[u8]) -> (bool, &[u8])
     }
 }
 
-// A number by how its size is read, which is cut and so has an opposite.
-fn number<F: Fn(&[u8]) -> Option<u32>>(s: &[u8], size: F) -> Option<i32>
+// A number by whether it has a minus and by how its size is read, which is cut and so has an opposite.
+fn number<F: Fn(&[u8]) -> Option<u32>>(negative: bool, u: &[u8], size: F) -> Option<i32>
     requires called { F.IsAlwaysCallable size }
     requires small { (u : List ℕ) (n : ℕ) → FnReturnsAt F.Fn size u (Some n) → n ≤ number_limit }
-    ensures { (z : Option ℕ) × FnReturnsAt F.Fn size (drop (sign_length s.now) s.now) z × (result ≡ with_sign (minus s.now) z) }
+    ensures { (z : Option ℕ) × FnReturnsAt F.Fn size u.now z × (result ≡ with_sign negative z) }
 {
-    let (negative, u) = signed(s);
     let n = size(u)? as i32;
     Some(if negative { -n } else { n })
 }
@@ -81,12 +80,14 @@ fn number<F: Fn(&[u8]) -> Option<u32>>(s: &[u8], size: F) -> Option<i32>
 pub fn whole(s: &[u8]) -> Option<i32>
     ensures { result ≡ cut_number (whole_of s.now) }
 {
-    number(s, whole_size)
+    let (negative, u) = signed(s);
+    number(negative, u, whole_size)
 }
 
 // A speed in knots, as hundredths.
 pub fn knots(s: &[u8]) -> Option<i32>
     ensures { result ≡ cut_number (knots_of s.now) }
 {
-    number(s, knots_size)
+    let (negative, u) = signed(s);
+    number(negative, u, knots_size)
 }

@@ -1,15 +1,50 @@
--- Laws of texts: how long a number's text is, and which bytes it has not.
+-- Laws of texts and of buffers: that texts written one after the other are one text, how long a number's text is, and which bytes it has not.
 use mathlib.Core.Bool.{Bool, true, false, not, ◌&&◌, ◌||◌, cond}
-use mathlib.Core.List.{List, [], ◌∷◌, ◌++◌}
+use mathlib.Core.List.{List, [], ◌∷◌, ◌++◌, append_assoc}
 use mathlib.Core.Path.{◌≡◌, refl, sym, ap, ◌∙◌, subst}
 use Prim.Native.Nat.{ℕ, zero, suc, ◌+◌, ◌/◌, ◌%◌, ◌^◌, ◌≤◌, ◌<◌}
+use native.Mathlib.Numerals.{add-one}
 use native.Mathlib.Omega.{arith}
 use borrow.Author.Tests.{lt-ltb, le-ltb, le-leb, ltb-true, ne_eqb}
 use lib.Dec.{T, ltb, leb, eqb}
 use lib.IntN.{ℤ, pos, negsuc, nat_abs}
 use lib.Signed.{lt_z}
-use lib.ListN.{length, length-append}
-use Rattle.text.specs.Text.{ascii, absent, digit, digits, decimal, hundredths, signed_by, signed, knots}
+use lib.ListN.{length, take, drop, set, length-append, length-drop}
+use lib.Seq.{length-take-le, take_at, drop-append-add, drop-drop, set_split}
+use Rattle.text.specs.Text.{ascii, absent, digit, digits, decimal, hundredths, signed_by, signed, knots, written}
+
+-- ════ Buffers ════
+
+-- the front of a buffer, and a text after it
+front : (old : List ℕ) (at : ℕ) (text : List ℕ) → at + length text ≤ length old → length (take at old ++ text) ≡ at + length text
+front old at text h =
+    let k : length (take at old) ≡ at = length-take-le at old (omega arith) in
+    length-append (take at old) text ∙ ap (λ (n : ℕ). n + length text) k
+
+-- a buffer with a text in it: the front with the text, and what was behind it
+split : (old : List ℕ) (at : ℕ) (text : List ℕ) → written old at text ≡ take at old ++ text ++ drop (at + length text) old
+unfolding written
+split old at text = sym (append_assoc (take at old) text (drop (at + length text) old))
+
+pub length_written : (old : List ℕ) (at : ℕ) (text : List ℕ) → at + length text ≤ length old → length (written old at text) ≡ length old
+length_written old at text h =
+    let e = front old at text h in
+    rw (split, length-append, e, length-drop) (omega arith)
+
+pub written_then : (old : List ℕ) (at : ℕ) (a b : List ℕ) → at + length a + length b ≤ length old
+    → written (written old at a) (at + length a) b ≡ written old at (a ++ b)
+written_then old at a b h =
+    let p : List ℕ = take at old ++ a in
+    let rest : List ℕ = drop (at + length a) old in
+    let e : length p ≡ at + length a = front old at a (omega arith) in
+    let n : at + length (a ++ b) ≡ at + length a + length b = simp length-append (omega arith) in
+    let behind = (rw e at (drop-append-add p rest (length b))) ∙ drop-drop (length b) (at + length a) old in
+    rw (split old at a, split (p ++ rest), take_at p rest (at + length a) e, behind, split, n, append_assoc (take at old) a b)
+
+-- a store is a text of one byte
+pub written_byte : (old : List ℕ) (at b : ℕ) → at < length old → set old at b ≡ written old at (b ∷ [])
+unfolding written
+written_byte old at b h = rw add-one (set_split old at b h)
 
 -- ════ Numbers ════
 

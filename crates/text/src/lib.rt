@@ -23,6 +23,15 @@ impl<'a> Writer<'a> {
         Writer { out, at: 0 }
     }
 
+    // The next text goes to the place `at`.
+    pub fn with_position(out: &'a mut [u8], at: usize) -> Self
+        ensures same_buffer { result.out.ghost_name ≡ out.entry.ghost_name }
+        ensures bytes { result.out.now ≡ out.old }
+        ensures start { result.at ≡ at }
+    {
+        Writer { out, at }
+    }
+
     // The place after what is written.
     pub fn position(&self) -> usize
         ensures { result ≡ self.now.at }
@@ -95,8 +104,10 @@ impl<'a> Writer<'a> {
     {
         self.number(n / 100);
         self.byte(b'.');
-        self.digit(n / 10 % 10);
-        self.digit(n % 10);
+        let tenth = n / 10 % 10;
+        let hundredth = n % 10;
+        self.digit(tenth);
+        self.digit(hundredth);
     }
 
     // So many hundredths of a knot.
@@ -105,7 +116,8 @@ impl<'a> Writer<'a> {
         requires { HasRoom self.old (length (knots x)) }
         ensures { Puts self.old (knots x) self.new }
     {
-        self.sign(x < 0);
+        let negative = x < 0;
+        self.sign(negative);
         self.hundredths(x.unsigned_abs());
     }
 }

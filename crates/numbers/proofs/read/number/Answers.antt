@@ -24,26 +24,26 @@ read n h = to_z_pos w32 (omega arith)
 pub returns-in_err-n : goal.returns-in_err-n
 unfolding with_sign
 returns-in_err-n g c =
-    (None, record { shown = c.signed-negative.result.1; shows = c.signed-negative.ensures.rest; says = record { met = c.in_err-n.ensures } }, c.from_residual.ensures)
+    (None, record { shown = c.args.u; shows = refl; says = record { met = c.in_err-n.ensures } }, c.from_residual.ensures)
 
 pub overflow_cast-n : goal.overflow_cast-n
 overflow_cast-n g c =
-    let h = c.requires.small _ _ (record { shown = c.signed-negative.result.1; shows = refl; says = record { met = c.in_ok-n.ensures } }) in
+    let h = c.requires.small _ _ (record { shown = c.args.u; shows = refl; says = record { met = c.in_ok-n.ensures } }) in
     record { sfits = omega (arith, h) }
 
 pub overflow_sub-result : goal.overflow_sub-result
 overflow_sub-result g c =
-    let h = c.requires.small _ _ (record { shown = c.signed-negative.result.1; shows = refl; says = record { met = c.in_ok-n.ensures } }) in
+    let h = c.requires.small _ _ (record { shown = c.args.u; shows = refl; says = record { met = c.in_ok-n.ensures } }) in
     rw (read _ h) (opposite _ h)
 
 pub returns : goal.returns
 unfolding with_sign
 returns g c =
-    let h = c.requires.small _ _ (record { shown = c.signed-negative.result.1; shows = refl; says = record { met = c.in_ok-n.ensures } }) in (
+    let h = c.requires.small _ _ (record { shown = c.args.u; shows = refl; says = record { met = c.in_ok-n.ensures } }) in (
       Some c.in_ok-n.field-0,
-      record { shown = c.signed-negative.result.1; shows = c.signed-negative.ensures.rest; says = record { met = c.in_ok-n.ensures } },
+      record { shown = c.args.u; shows = refl; says = record { met = c.in_ok-n.ensures } },
       elim c.if-negative.branch [
-        | then-negative w ↦ rw (w.result-is, ← c.signed-negative.ensures.negative, w.if-negative.true, read _ h, to_z-of_z {w = w32} (opposite _ h), +ℤ_idl)
-        | else-negative w ↦ rw (w.result-is, ← c.signed-negative.ensures.negative, w.if-negative.false, read _ h)
+        | then-negative w ↦ rw (w.result-is, w.if-negative.true, read _ h, to_z-of_z {w = w32} (opposite _ h), +ℤ_idl)
+        | else-negative w ↦ rw (w.result-is, w.if-negative.false, read _ h)
       ],
     )
