@@ -86,7 +86,7 @@ fn main(rt: HostRuntime) {
         let _ = eprintln!(rt; "usage: listing <FILE");
         return;
     }
-    // kept: buffers of fixed size, this, `out` and `text`, as nothing is taken from the heap (DECISIONS 121)
+    // kept: buffers of fixed size, this and `out`, as no run and no listing is taken from the heap (DECISIONS 121)
     let mut file = [0u8; MOST_READ];
     match read_input(rt.stdin(), &mut file) {
         Ok(n) => print_listing(rt, &file[..n]),
