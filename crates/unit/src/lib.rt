@@ -193,15 +193,16 @@ impl State {
     pub fn offer(self, s: Sample) -> Offered
         ensures { PlainPromise self s result.answer result.state }
     {
-        match self.check(s) {
-            Ok(()) => self.accept(s),
-            Err(refusal) => Offered {
-                answer: Answer {
-                    refusal: u16::from(refusal),
-                    ..Answer::default()
-                },
+        if let Err(refusal) = self.check(s) {
+            let answer = Answer {
+                refusal: u16::from(refusal),
+                ..Answer::default()
+            };
+            return Offered {
+                answer,
                 state: self,
-            },
+            };
         }
+        self.accept(s)
     }
 }

@@ -5,10 +5,10 @@ use Rattle.unit.proofs.StepLaws.{leans, promised, refused}
 use Rattle.unit.proofs.State.offer.Goals as goal
 
 pub accept-requires : goal.accept-requires
-accept-requires c = leans _ _ (sym c.in-Ok.ensures)
+accept-requires c = leans _ _ (sym c.in_default.ensures)
 
-pub returns-in-Ok : goal.returns-in-Ok
-returns-in-Ok c = promised c.args.self c.args.s (sym c.in-Ok.ensures) c.accept.ensures
+pub returns : goal.returns
+returns c = promised c.args.self c.args.s (sym c.in_default.ensures) c.accept.ensures
 
 pub returns-in-Err : goal.returns-in-Err
 unfolding refused_of
