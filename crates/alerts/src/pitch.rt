@@ -70,9 +70,10 @@ impl Guide {
         if 600 <= count {
             return Guide::default();
         }
+        let top = cap(s.sample);
         Guide {
             count: count + 1,
-            command: cap(s.sample).min(towards(s, self.command)),
+            command: top.min(towards(s, self.command)),
         }
     }
 
