@@ -52,8 +52,10 @@ impl<'a> Writer<'a> {
         requires { HasRoom self.old 1 }
         ensures { Puts self.old (b ∷ []) self.new }
     {
-        self.out[self.at] = b;
-        self.at += 1;
+        // read once: behind the store, the place would be loaded again
+        let at = self.at;
+        self.out[at] = b;
+        self.at = at + 1;
     }
 
     #[tactic(auto, unfolding(crate::specs::Text::digit))]
