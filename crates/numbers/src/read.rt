@@ -67,6 +67,7 @@ fn signed(s: &[u8]) -> (bool, &[u8])
 }
 
 // A number by whether it has a minus and by how its size is read, which is cut and so has an opposite.
+// kept: a flag, as `with_sign` of Number.antt takes the sign that `signed` found.
 fn number<F: Fn(&[u8]) -> Option<u32>>(negative: bool, u: &[u8], size: F) -> Option<i32>
     requires called { F.IsAlwaysCallable size }
     requires small { (u : List ℕ) (n : ℕ) → FnReturnsAt F.Fn size u (Some n) → n ≤ number_limit }
@@ -85,6 +86,7 @@ pub fn whole(s: &[u8]) -> Option<i32>
 }
 
 // A speed in knots, as hundredths.
+// kept: beside `whole`, which differs in how the size is read; one function over both would take as many lines.
 pub fn knots(s: &[u8]) -> Option<i32>
     ensures { result ≡ cut_number (knots_of s.now) }
 {
