@@ -1,7 +1,7 @@
 -- A step as its methods, one after another, over plain values: a lone sample's step and a run's both rest on it.
 use mathlib.Core.Bool.{true}
 use mathlib.Core.List.{List}
-use mathlib.Core.Path.{◌≡◌, ap}
+use mathlib.Core.Path.{◌≡◌, ap, ◌∙◌}
 use Prim.Native.Nat.{ℕ}
 use native.Mathlib.Omega.{arith}
 use borrow.Author.Tests.{eq-eqb, ne_eqb}
@@ -11,6 +11,7 @@ use Rattle.frames.specs.Frames.{frames_fit}
 use Rattle.rules.specs.Rules.{refusal, entry_limit}
 use Rattle.unit_core.specs.Core.{frames_of, shear_of, entry_of, core_with, lamps_of, voice_of, guide_of, pitch_of, answer_of, refused_of, shown_by, refusal_by}
 use Rattle.unit.specs.Steps.{beside, push_times, entry_fits, windows_of, accept_of, passes, refusal_of, offer_of, PlainPromise, Valid}
+use Rattle.windows.specs.declared.Sums.{Sums}
 use Rattle.alerts.specs.Counters.{GuideValid}
 use Rattle.rules.specs.Needs.{InRange}
 use Rattle.unit_core.specs.declared.Answer.{Answer}
@@ -47,11 +48,19 @@ pub entered_is : (t : State) (s : Sample) (n : ℕ) (x : ℤ) {held : List ℤ} 
 unfolding windows_of
 entered_is t s n x e = ap (λ (u : State). beside u.held (core_with u.core.sums u.core.place s t.core)) e
 
--- the windows, the lamps and the voice leave guidance as it was
-pub guide_kept : (t : State) (s : Sample) (n : ℕ) (x height : ℤ) {held : List ℤ} {entered lit spoken : Core}
+-- the lamps and the voice leave guidance as it was, whatever the windows' sums and place are
+pub guide_kept : (t : State) (s : Sample) (n : ℕ) (height : ℤ) (sums : Sums) (place : ℕ) {lit spoken : Core}
+    → lit ≡ lamps_of (core_with sums place s t.core) height n → spoken ≡ voice_of lit s n → Valid t → GuideValid (guide_of spoken)
+unfolding core_with lamps_of voice_of guide_of
+guide_kept t s n height sums place l v h = rw (v, l) h.guide
+
+-- and so where they are those of the filled windows
+pub guide_kept_entered : (t : State) (s : Sample) (n : ℕ) (x height : ℤ) {held : List ℤ} {entered lit spoken : Core}
     → beside held entered ≡ windows_of t s n x → lit ≡ lamps_of entered height n → spoken ≡ voice_of lit s n → Valid t → GuideValid (guide_of spoken)
-unfolding windows_of core_with lamps_of voice_of guide_of
-guide_kept t s n x height w l v h = rw (v, l, one_core w) h.guide
+unfolding windows_of
+guide_kept_entered t s n x height w l v h =
+    let c = (push_times n t x).core in
+    guide_kept t s n height c.sums c.place (l ∙ ap (λ (e : Core). lamps_of e height n) (one_core w)) v h
 
 -- the methods one after another are the step
 pub chain : (t : State) (s : Sample) {n : ℕ} {x entry : ℤ} {held : List ℤ} {entered lit spoken end : Core} {a : Answer}

@@ -5,7 +5,7 @@ use mir.Val.{SFits}
 use mir.Facts.{to_z-of_z}
 use Rattle.frames.proofs.FrameLaws.{fit_bounds}
 use Rattle.unit.specs.Steps.{beside}
-use Rattle.unit.proofs.StepLaws.{leans, entry_fits_lem, guide_kept, chain, promised}
+use Rattle.unit.proofs.StepLaws.{leans, entry_fits_lem, guide_kept_entered, chain, promised}
 use Rattle.unit.proofs.step.Goals as goal
 
 pub returns : goal.returns
@@ -43,4 +43,4 @@ pitch-end-requires c =
     let h : SFits w32 c.args.s.height = search rules in
     let lit = simp to_z-of_z at c.lamps-lit.ensures in
     let a = leans before c.args.s c.requires in
-    guide_kept before c.args.s _ _ _ c.entered-filled.ensures lit c.voice-spoken.ensures a.0
+    guide_kept_entered before c.args.s _ _ _ c.entered-filled.ensures lit c.voice-spoken.ensures a.0

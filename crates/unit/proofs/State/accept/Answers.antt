@@ -8,7 +8,7 @@ use mir.Val.{SFits}
 use mir.Facts.{to_z-of_z}
 use Rattle.frames.proofs.FrameLaws.{fit_bounds}
 use Rattle.unit.specs.Steps.{beside, accept_of}
-use Rattle.unit.proofs.StepLaws.{one_ring, one_core, entry_fits_lem, guide_kept, chain}
+use Rattle.unit.proofs.StepLaws.{one_ring, one_core, entry_fits_lem, guide_kept_entered, chain}
 use Rattle.unit.proofs.State.accept.Goals as goal
 
 pub returns : goal.returns
@@ -41,4 +41,4 @@ windows-full-requires c =
 
 pub pitch-end-requires : goal.pitch-end-requires
 pitch-end-requires c =
-    guide_kept c.args.self c.args.s _ _ _ c.windows-full.ensures (one_core c.lamps-lit.ensures) (one_core c.voice-spoken.ensures) c.requires.0
+    guide_kept_entered c.args.self c.args.s _ _ _ c.windows-full.ensures (one_core c.lamps-lit.ensures) (one_core c.voice-spoken.ensures) c.requires.0
